@@ -1,0 +1,10 @@
+pub mod Writing
+pub mod Decimal
+pub mod Names
+pub mod Letters
+pub mod Short
+pub mod Once
+pub mod Cut
+pub mod Reporting
+pub mod Accepted
+pub mod SheetAnswers

@@ -1,0 +1,5 @@
+pub mod Text
+pub mod Output
+pub mod Sheets
+pub mod Examples
+pub mod inner

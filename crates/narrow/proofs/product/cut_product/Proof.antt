@@ -1,0 +1,42 @@
+-- `narrow::product::cut_product` meets its contract: the span of the two ranges that were read is held, and a held span cuts a good range as the exact one does.
+use Rattle.whole.specs.declared.Range.{Range}
+use Rattle.whole.specs.inner.Held.{heldSpan}
+use Rattle.whole.specs.Ranges.{productSpan}
+use Rattle.narrow.specs.Narrowing.{productStep}
+use mathlib.Core.Path.{refl, ap₂, _∙_}
+use Rattle.narrow.proofs.Cutting.{done-held}
+use borrow.Author.Needs.{needs}
+use Rattle.narrow.proofs.product.cut_product.Statement.{statement}
+use Rattle.narrow.proofs.product.cut_product.Tie as tie
+
+range-at-requires : tie.Need-range-at-requires
+range-at-requires c κs = search needs
+
+range-at-requires-2 : tie.Need-range-at-requires-2
+range-at-requires-2 c κs = search needs
+
+product-requires : tie.Need-product-requires
+product-requires c κs = search needs
+
+cut-requires : tie.Need-cut-requires
+cut-requires c κs = search needs
+
+same-length : tie.Need-same-length
+same-length c = search needs
+
+returns : tie.Need-returns
+returns c =
+    let s = c .before .before .before .before .before .before .before .before in
+    done-held (productStep (s .args .z) (s .args .x) (s .args .y)) refl (c .before .cut .ensures) (s .pre .0 .good (s .args .z) (s .pre .1 .0))
+    (c .before .before .before .product .ensures ∙ ap₂ (λ (x y : Range). heldSpan (productSpan x y)) (c .before .before .before .before .before .before .range-at .ensures .is) (c .before .before .before .before .range-at2 .ensures .is))
+
+pub cut-product-spec : {M : Type 1} → statement M
+cut-product-spec =
+    tie.close
+    (tie.spec
+    range-at-requires
+    range-at-requires-2
+    product-requires
+    cut-requires
+    same-length
+    returns)

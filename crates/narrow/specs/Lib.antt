@@ -1,0 +1,4 @@
+pub mod Cuts
+pub mod Narrowing
+pub mod Sweep
+pub mod inner

@@ -1,0 +1,5 @@
+pub mod Problem
+pub mod Order
+pub mod Lists
+pub mod Grounds
+pub mod inner

@@ -1,0 +1,16 @@
+pub mod Splits
+pub mod Order
+pub mod Deep
+pub mod Choice
+pub mod Run
+pub mod Demand2
+pub mod Going
+pub mod Judged
+pub mod Instance
+pub mod Promise
+pub mod Copies
+pub mod TwoSlots
+pub mod Slots
+pub mod Held
+pub mod Searching
+pub mod Solving

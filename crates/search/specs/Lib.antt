@@ -1,0 +1,5 @@
+pub mod Search
+pub mod Depth
+pub mod Solve
+pub mod Demand2
+pub mod inner

@@ -1,0 +1,85 @@
+-- What a solve gives back, and what it leaves in the caller's buffers: document 01, "What a solve gives back".
+use mathlib.Core.Path.{_≡_}
+use mathlib.Core.Bool.{Bool, not, cond, _||_}
+use mathlib.Core.List.{List, [], _∷_, _++_}
+use Prim.Native.Nat.{ℕ, _-_}
+use lib.Dec.{eqb, ltb}
+use lib.IntN.{ℤ, pos}
+use lib.ListN.{length, drop, replicate}
+use lib.Signed.{ltZ}
+use Rattle.whole.specs.Numbers.{P}
+use Rattle.problem.specs.Problem.{Box, quantities}
+use Rattle.problem.specs.Lists.{problemOf}
+use Rattle.problem.specs.Grounds.{judgeOf, refusalNumber}
+use Rattle.problem.specs.declared.Refusal.{Refusal}
+use Rattle.problem.specs.declared.Refusal.the-variants.{Budget, Room}
+use Rattle.problem.specs.declared.Judged.{Judged}
+use Rattle.problem.specs.declared.Judged.the-variants.{Sound, Refused}
+use Rattle.search.specs.Search.{Outcome, stopped, found, none, searchOf}
+use Rattle.search.specs.Depth.{roomOf}
+use Rattle.search.specs.declared.Answer.{Answer}
+use Rattle.search.specs.declared.Answer.the-variants as answer
+use Rattle.search.specs.declared.Solved.{Solved}
+
+-- 6: budget outside 0 to 1,000,000,000
+abbrev pub badBudget : ℤ → Bool
+badBudget budget = ltZ budget (pos 0) || ltZ (pos 1_000_000_000) budget
+
+-- 7: point buffer not n numbers, or workspace too short
+abbrev pub badRoom : List ℤ → List ℤ → List ℤ → Bool
+badRoom rs point work = not (eqb (length point) (quantities rs)) || ltb (length work) (roomOf rs)
+
+-- the first ground met, 1 to 7
+abbrev pub orElse : Judged → Judged → Judged
+orElse Sound j = j
+orElse (Refused g) j = Refused g
+
+unfoldable pub judged : List ℤ → List ℤ → List ℤ → List ℤ → ℤ → List ℤ → List ℤ → Judged
+judged rs ps ns ls budget point work =
+    orElse (judgeOf rs ps ns ls)
+    (cond (badBudget budget) (Refused Budget) (cond (badRoom rs point work) (Refused Room) Sound))
+
+-- the low end of each quantity in a box
+unfoldable pub lows : Box → List ℤ
+lows [] = []
+lows (l ∷ []) = []
+lows (l ∷ (h ∷ b)) = l ∷ lows b
+
+-- the answer, and the number of sweeps used
+abbrev pub answered : ℕ → Outcome → Solved
+answered budget (stopped c ws) = record { answer = answer.Stopped; sweeps = budget }
+answered budget (found c ws left) = record { answer = answer.Found; sweeps = budget - left }
+answered budget (none left) = record { answer = answer.None; sweeps = budget - left }
+
+-- a refusal gives its number and sweep count 0
+abbrev pub resultOf : Judged → ℕ → Outcome → Solved
+resultOf Sound budget o = answered budget o
+resultOf (Refused g) budget o = record { answer = answer.Refused g; sweeps = 0 }
+
+-- found, the point; stopped, the floor; none, unchanged
+abbrev pub pointOf : Outcome → List ℤ → List ℤ
+pointOf (stopped c ws) point = lows c
+pointOf (found c ws left) point = lows c
+pointOf (none left) point = point
+
+-- after a refusal as it came
+abbrev pub unless : Judged → List ℤ → List ℤ → List ℤ
+unless Sound new old = new
+unless (Refused g) new old = old
+
+-- the first numbers of the workspace are 0, the rest unchanged
+abbrev pub cleared : ℕ → List ℤ → List ℤ
+cleared room work = replicate room (pos 0) ++ drop room work
+
+-- the result, and what point buffer and workspace hold (p, w), from what they came with (p₀, w₀)
+pub record Solves (rs ps ns ls : List ℤ) (budget : ℤ) (p₀ w₀ p w : List ℤ) (r : Solved) : Type 0 where
+  pub result : r ≡ resultOf (judged rs ps ns ls budget p₀ w₀) (P budget) (searchOf (problemOf rs ps ns ls) (P budget))
+  pub point : p ≡ unless (judged rs ps ns ls budget p₀ w₀) (pointOf (searchOf (problemOf rs ps ns ls) (P budget)) p₀) p₀
+  pub work : w ≡ unless (judged rs ps ns ls budget p₀ w₀) (cleared (roomOf rs) w₀) w₀
+
+-- document 01's number of a refusal; 0 where there is none
+abbrev pub numberOf : Answer → ℕ
+numberOf answer.None = 0
+numberOf answer.Found = 0
+numberOf answer.Stopped = 0
+numberOf (answer.Refused g) = refusalNumber g

@@ -1,0 +1,21 @@
+-- Laws that several proofs, or the proofs of other crates, cite.
+pub mod Places
+pub mod Lines
+pub mod Digits
+pub mod Words
+pub mod Steps
+pub mod Marks
+pub mod Contents
+pub mod Declarations
+pub mod LineForms
+pub mod Depths
+pub mod Nesting
+pub mod Names
+pub mod Once
+pub mod Heads
+pub mod Pieces
+pub mod Spelling
+pub mod SpellingComparisons
+pub mod SpellingLines
+pub mod Truth
+pub mod Worked

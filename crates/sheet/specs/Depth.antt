@@ -1,0 +1,59 @@
+-- Ground 23 of document 01, "Sheets": more than 16 brackets open at some token (opened less closed).
+use mathlib.Core.Bool.{Bool, true, false, cond}
+use mathlib.Core.List.{List, [], _∷_}
+use Prim.Native.Nat.{ℕ, suc, _+_, max}
+use lib.Dec.{eqb, ltb}
+use Rattle.sheet.specs.Grammar.{Expr, one, plus, minus, Term, lone, times, Factor, bare, squared, Atom, number, name, bracket, Comparison, Line, ranged, default, must, when}
+use Rattle.sheet.specs.Reading.{tokenNo}
+use Rattle.sheet.specs.declared.Token.{Token}
+
+-- how many brackets a token opens
+abbrev pub opensOf : Token → ℕ
+opensOf t = cond (eqb (tokenNo t) 4) 1 0
+
+-- and closes
+abbrev pub closesOf : Token → ℕ
+closesOf t = cond (eqb (tokenNo t) 5) 1 0
+
+-- whether more than 16 are open at one of these tokens, if o were opened and c closed before them
+unfoldable pub deepFrom : ℕ → ℕ → List Token → Bool
+deepFrom o c [] = false
+deepFrom o c (t ∷ ts) =
+    cond (ltb (c + closesOf t + 16) (o + opensOf t)) true (deepFrom (o + opensOf t) (c + closesOf t) ts)
+
+-- whether more than 16 are open at some token of a line
+abbrev pub tooDeep : List Token → Bool
+tooDeep ts = deepFrom 0 0 ts
+
+-- ---- how deep the brackets of a tree nest. A line that is not too deep has no tree above 16: proofs/Nesting.antt
+unfoldable mutual
+  pub depthE : Expr → ℕ
+  depthE (one t) = depthT t
+  depthE (plus e t) = max (depthE e) (depthT t)
+  depthE (minus e t) = max (depthE e) (depthT t)
+
+  pub depthT : Term → ℕ
+  depthT (lone f) = depthF f
+  depthT (times t f) = max (depthT t) (depthF f)
+
+  pub depthF : Factor → ℕ
+  depthF (bare a) = depthA a
+  depthF (squared a) = depthA a
+
+  pub depthA : Atom → ℕ
+  depthA (number n) = 0
+  depthA (name n) = 0
+  depthA (bracket e) = suc (depthE e)
+
+unfoldable pub depthC : Comparison → ℕ
+depthC c = max (depthE (c .left)) (depthE (c .right))
+
+unfoldable pub depthAll : Comparison → List Comparison → ℕ
+depthAll c [] = depthC c
+depthAll c (d ∷ ds) = max (depthC c) (depthAll d ds)
+
+unfoldable pub depthLine : Line → ℕ
+depthLine (ranged n low high) = 0
+depthLine (default n) = 0
+depthLine (must d ds) = depthAll d ds
+depthLine (when c cs d ds) = max (depthAll c cs) (depthAll d ds)

@@ -1,0 +1,4 @@
+pub mod Emission
+pub mod Letters
+pub mod Stored
+pub mod Comparisons

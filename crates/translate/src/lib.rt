@@ -1,0 +1,188 @@
+// Sheets to problems: the grounds in order, line by line, and the public call `translate`.
+mod expression;
+mod front;
+mod line;
+mod name;
+mod rule;
+mod text;
+mod walk;
+mod writing;
+
+ghost use mathlib.Core.Path.{_≡_};
+ghost use mathlib.Core.Bool.{_||_};
+ghost use lib.Dec.{ltb};
+ghost use Rattle.translate.specs.Translate.{Translates};
+use sheet::Value;
+use text::bad_text;
+use text::first_line;
+use whole::Range;
+
+// The grounds on which a sheet is refused, 19 to 30.
+pub enum Refusal {
+    Lists,
+    Text,
+    FirstLine,
+    Version,
+    Brackets,
+    Form,
+    Names,
+    Order,
+    Equalities,
+    Beyond,
+    Many,
+    Undeclared,
+}
+
+// How many of each an accepted sheet makes.
+pub struct Counts {
+    pub quantities: usize,
+    pub declared: usize,
+    pub primitives: usize,
+    pub clauses: usize,
+    pub literals: usize,
+}
+
+// What a translation answers: the counts, or the refusal and its line.
+pub enum Translated {
+    Accepted(Counts),
+    Refused { refusal: Refusal, line: usize },
+}
+
+// How many quantities and primitives there are, whether a name was undeclared, and whether a range left plus or minus M.
+pub struct Making {
+    pub used: usize,
+    pub count: usize,
+    pub unknown: bool,
+    pub wide: bool,
+}
+
+// The quantity that holds the value of what was read, and its range.
+pub struct Held {
+    pub place: usize,
+    pub span: Range,
+}
+
+// A helper that was made, and the counts with it.
+pub struct Emitted {
+    pub held: Held,
+    pub making: Making,
+}
+
+// What reading a part of an expression made, and where the next token starts; or that there is no such part.
+pub enum Made {
+    At {
+        next: usize,
+        held: Held,
+        making: Making,
+    },
+    Not,
+}
+
+// The counts, how many literals a clause has so far, and how many equality demands there were, up to two.
+pub struct Tally {
+    pub making: Making,
+    pub count: usize,
+    pub equals: usize,
+}
+
+// What listing comparisons made, and where the next token starts; or that they are not of the form.
+pub enum Listed {
+    At { next: usize, tally: Tally },
+    Not,
+}
+
+// What reading the comparisons of a rule made: the counts, how many literals, and how many equality demands, up to two; or that they are not of the form.
+pub enum Ruled {
+    Done {
+        making: Making,
+        count: usize,
+        equals: usize,
+    },
+    Unread,
+}
+
+// What a line comes to: the counts so far, or the ground it is refused on.
+pub enum Lined {
+    Next(Progress),
+    Refused(Refusal),
+}
+
+// How far the sheet has been read: the counts so far, and whether a rule was met.
+pub struct Progress {
+    pub declared: usize,
+    pub quantities: usize,
+    pub primitives: usize,
+    pub clauses: usize,
+    pub literals: usize,
+    pub ruled: bool,
+}
+
+// What the lines of a sheet come to: the counts, or the refusal and its line.
+pub enum Walked {
+    Read(Progress),
+    Refused { refusal: Refusal, line: usize },
+}
+
+// Whether a lent list is shorter than its full size: 19.
+fn short(ranges: usize, primitives: usize, lengths: usize, literals: usize, names: usize) -> bool
+    ensures { λ r. ⌜ r ≡ (ltb ranges 256 || (ltb primitives 1024 || (ltb lengths 256 || (ltb literals 3072 || ltb names 1024)))) ⌝ }
+{
+    if ranges < 256 {
+        return true;
+    }
+    if primitives < 1_024 {
+        return true;
+    }
+    if lengths < 256 {
+        return true;
+    }
+    if literals < 3_072 {
+        return true;
+    }
+    names < 1_024
+}
+
+// Translates a sheet into the lists of a problem: ranges, primitives, clause lengths, literals, and the names of the declared quantities.
+pub fn translate(
+    sheet: &[u8],
+    ranges: &mut [i64],
+    primitives: &mut [i64],
+    lengths: &mut [i64],
+    literals: &mut [i64],
+    names: &mut [u8],
+) -> Translated
+    ensures { λ r. ⌜ Translates (now (sheet .entry)) (now (ranges .entry)) (now (primitives .entry)) (now (lengths .entry)) (now (literals .entry)) (now (names .entry)) (now (ranges .exit)) (now (primitives .exit)) (now (lengths .exit)) (now (literals .exit)) (now (names .exit)) r ⌝ }
+{
+    if short(
+        ranges.len(),
+        primitives.len(),
+        lengths.len(),
+        literals.len(),
+        names.len(),
+    ) {
+        return Translated::Refused {
+            refusal: Refusal::Lists,
+            line: 0,
+        };
+    }
+    if bad_text(sheet) {
+        return Translated::Refused {
+            refusal: Refusal::Text,
+            line: 0,
+        };
+    }
+    let end = sheet::line::line_end(sheet, 0);
+    let Value::Is(version) = first_line(&sheet[..end]) else {
+        return Translated::Refused {
+            refusal: Refusal::FirstLine,
+            line: 1,
+        };
+    };
+    if version != 1 {
+        return Translated::Refused {
+            refusal: Refusal::Version,
+            line: 1,
+        };
+    }
+    walk::fill(sheet, end + 1, ranges, primitives, lengths, literals, names)
+}

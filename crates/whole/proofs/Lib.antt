@@ -1,0 +1,13 @@
+pub mod Calls
+pub mod Digits
+pub mod Division
+pub mod Doubling
+pub mod Held
+pub mod Kit
+pub mod Meaning
+pub mod Newton
+pub mod Powers
+pub mod Products
+pub mod Quotients
+pub mod Roots
+pub mod Spans

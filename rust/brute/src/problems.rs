@@ -1,0 +1,278 @@
+//! Problems and random ones: small, extreme and damaged.
+
+use crate::random::Random;
+use crate::M;
+
+/// The four lists of a problem.
+#[derive(Clone, Debug, Default, PartialEq, Eq)]
+pub struct Problem {
+    pub ranges: Vec<i64>,
+    pub primitives: Vec<i64>,
+    pub lengths: Vec<i64>,
+    pub literals: Vec<i64>,
+}
+
+impl Problem {
+    pub fn n(&self) -> usize {
+        self.ranges.len() / 2
+    }
+}
+
+/// A problem small enough to try every point. Half of them are built round a
+/// hidden point, so that solutions are common too.
+pub fn small(random: &mut Random) -> Problem {
+    let n = 1 + random.below(5);
+    let widest = [60, 24, 11, 7, 5][n - 1];
+    let mut problem = Problem::default();
+    for _ in 0..n {
+        let low = random.between(-9, 9);
+        problem.ranges.extend([low, low + random.between(0, widest - 1)]);
+    }
+    add_primitives(random, &mut problem, 4);
+    if random.once_in(2) {
+        fit_to_a_point(random, &mut problem);
+    }
+    add_clauses(random, &mut problem, |random| random.between(-12, 12));
+    problem
+}
+
+/// Stretches the range of each equation's z to take in its value at a point
+/// of the ranges, as far as it stays small.
+fn fit_to_a_point(random: &mut Random, problem: &mut Problem) {
+    let mut point: Vec<i64> =
+        problem.ranges.chunks(2).map(|range| random.between(range[0], range[1])).collect();
+    for p in problem.primitives.chunks(4) {
+        let (z, x, y) = (p[1] as usize, point[p[2] as usize], point[p[3] as usize]);
+        let value = match p[0] {
+            1 => x + y,
+            2 => x * y,
+            _ => x * x,
+        };
+        if value.abs() <= 50 && z != p[2] as usize && (p[0] == 3 || z != p[3] as usize) {
+            let low = value - random.between(0, 2);
+            point[z] = value;
+            problem.ranges[2 * z] = low;
+            problem.ranges[2 * z + 1] = value + random.between(0, 2);
+        }
+    }
+}
+
+/// A problem with ends anywhere within plus or minus M, mostly at places
+/// where products, quotients and roots are at their edges.
+pub fn extreme(random: &mut Random) -> Problem {
+    let n = 1 + random.below(6);
+    let mut problem = Problem::default();
+    for _ in 0..n {
+        let (a, b) = (notable(random), notable(random));
+        let b = if random.once_in(3) { (a + random.between(0, 20)).min(M) } else { b };
+        problem.ranges.extend([a.min(b), a.max(b)]);
+    }
+    add_primitives(random, &mut problem, 6);
+    add_clauses(random, &mut problem, notable);
+    problem
+}
+
+/// A number within plus or minus M, often next to a notable one.
+pub fn notable(random: &mut Random) -> i64 {
+    const BASES: [i64; 12] = [
+        0,
+        1,
+        10,
+        1_000,
+        999_999,
+        1_000_000,
+        46_340,
+        3_037_000_499,
+        4_294_967_296,
+        65_536,
+        1_000_000_000,
+        M,
+    ];
+    let base = match random.below(5) {
+        0 => random.between(-M, M),
+        1 => {
+            let root = random.between(0, 1_000_000);
+            root * root
+        }
+        2 => random.between(-30, 30),
+        _ => *random.pick(&BASES),
+    };
+    let sign = if random.once_in(2) { -1 } else { 1 };
+    (sign * base + random.between(-2, 2)).clamp(-M, M)
+}
+
+fn add_primitives(random: &mut Random, problem: &mut Problem, most: usize) {
+    let n = problem.n();
+    for _ in 0..random.below(most + 1) {
+        let kind = random.between(1, 3);
+        let (z, x) = (random.below(n) as i64, random.below(n) as i64);
+        let y = if kind == 3 { 0 } else { random.below(n) as i64 };
+        problem.primitives.extend([kind, z, x, y]);
+    }
+}
+
+fn add_clauses(random: &mut Random, problem: &mut Problem, bound: impl Fn(&mut Random) -> i64) {
+    let n = problem.n();
+    for _ in 0..random.below(5) {
+        let length = if random.once_in(40) { 0 } else { 1 + random.below(4) };
+        problem.lengths.push(length as i64);
+        for _ in 0..length {
+            let quantity = random.below(n) as i64;
+            problem.literals.extend([quantity, random.between(0, 1), bound(random)]);
+        }
+    }
+}
+
+/// Lists of any lengths with any numbers in them.
+pub fn arbitrary(random: &mut Random) -> Problem {
+    let mut list = |step: usize, most: usize| -> Vec<i64> {
+        let mut length = step * random.below(4);
+        if random.once_in(30) {
+            length = most - step + random.below(2 * step + 1);
+        } else if random.once_in(10) {
+            length += 1;
+        }
+        let is_tame = !random.once_in(3);
+        (0..length).map(|_| any_number(random, is_tame)).collect()
+    };
+    let ranges = list(2, 256);
+    let primitives = list(4, 1_024);
+    let literals = list(3, 3_072);
+    let mut lengths = list(1, 256);
+    if random.once_in(2) {
+        lengths = vec![literals.len() as i64 / 3];
+    }
+    Problem { ranges, primitives, lengths, literals }
+}
+
+fn any_number(random: &mut Random, is_tame: bool) -> i64 {
+    match random.below(if is_tame { 40 } else { 6 }) {
+        0 => random.bits() as i64,
+        1 => *random.pick(&[i64::MIN, i64::MAX, i64::MIN + 1, 1 << 32, M + 1, -M - 1, M, -M]),
+        _ => random.between(0, 2),
+    }
+}
+
+/// Everything a solve is handed, with the refusal it must give.
+pub struct Damaged {
+    pub problem: Problem,
+    pub budget: i64,
+    pub point: usize,
+    pub work: usize,
+    pub refusal: u8,
+}
+
+/// Does one to three of the seven kinds of damage to a problem. They are done
+/// from the highest number down, so that the lowest is surely left standing;
+/// and each kind brings in no fault with a lower number than its own.
+pub fn damaged(random: &mut Random, problem: Problem, need: usize) -> Damaged {
+    let point = problem.n();
+    let mut case = Damaged { problem, budget: random.between(0, 9), point, work: need, refusal: 8 };
+    let mut numbers: Vec<u8> =
+        (0..1 + random.below(3)).map(|_| 1 + random.below(7) as u8).collect();
+    numbers.sort_unstable_by(|a, b| b.cmp(a));
+    // The same kind twice could undo itself.
+    numbers.dedup();
+    for number in numbers {
+        damage(random, &mut case, number);
+        case.refusal = number;
+    }
+    case
+}
+
+fn damage(random: &mut Random, case: &mut Damaged, number: u8) {
+    match number {
+        1 => damage_count(random, &mut case.problem),
+        2 => damage_lists(random, &mut case.problem),
+        3 => damage_range(random, &mut case.problem),
+        4 => damage_primitive(random, &mut case.problem),
+        5 => damage_literal(random, &mut case.problem),
+        6 => case.budget = *random.pick(&[-1, 1_000_000_001, i64::MIN, i64::MAX]),
+        _ => damage_buffers(random, case),
+    }
+}
+
+fn damage_count(random: &mut Random, problem: &mut Problem) {
+    match random.below(4) {
+        0 => problem.ranges.clear(),
+        1 => problem.ranges.push(0),
+        2 => {
+            problem.ranges.pop();
+        }
+        _ => problem.ranges.resize(258, 0),
+    }
+}
+
+fn damage_lists(random: &mut Random, problem: &mut Problem) {
+    match random.below(9) {
+        0 => problem.primitives.push(1),
+        1 => problem.primitives.resize(1_028, 0),
+        2 => problem.lengths.resize(257, 0),
+        3 => {
+            problem.lengths = vec![5; 205];
+            problem.literals = vec![0; 3 * 1_025];
+        }
+        4 => problem.lengths.push(1),
+        5 => problem.literals.push(0),
+        6 => problem.literals.extend([0, 0, 0]),
+        7 => {
+            problem.lengths.extend([1, -1]);
+        }
+        _ => problem.lengths.extend([i64::MAX, 1, i64::MAX, 1]),
+    }
+}
+
+fn damage_range(random: &mut Random, problem: &mut Problem) {
+    let quantity = random.below(problem.n());
+    let range: [i64; 2] = *random.pick(&[
+        [1, 0],
+        [i64::MAX, i64::MIN],
+        [-M - 1, 0],
+        [0, M + 1],
+        [i64::MIN, i64::MAX],
+        [M + 1, M + 1],
+        [i64::MIN, i64::MIN],
+    ]);
+    problem.ranges[2 * quantity..2 * quantity + 2].copy_from_slice(&range);
+}
+
+/// Numbers that are no quantity of a problem with n quantities, among them
+/// those that a cast to a smaller type would let through.
+fn missing(random: &mut Random, n: usize) -> i64 {
+    *random.pick(&[-1, n as i64, 128, 256, 1 << 32, -(1 << 32), 1 << 63, i64::MAX])
+}
+
+fn damage_primitive(random: &mut Random, problem: &mut Problem) {
+    let n = problem.n();
+    let bad = missing(random, n);
+    let primitive = match random.below(7) {
+        0 => [*random.pick(&[0, 4, -1, 1 << 32, i64::MIN, 257]), 0, 0, 0],
+        1 => [1, bad, 0, 0],
+        2 => [1, 0, bad, 0],
+        3 => [2, 0, 0, bad],
+        4 => [3, bad, 0, 0],
+        5 => [3, 0, bad, 0],
+        _ => [3, 0, 0, *random.pick(&[1, -1, i64::MIN, 1 << 32])],
+    };
+    let place = 4 * random.below(problem.primitives.len() / 4 + 1);
+    problem.primitives.splice(place..place, primitive);
+}
+
+fn damage_literal(random: &mut Random, problem: &mut Problem) {
+    let literal = match random.below(3) {
+        0 => [missing(random, problem.n()), 0, 0],
+        1 => [0, *random.pick(&[2, -1, 1 << 32, i64::MIN, 256]), 0],
+        _ => [0, 1, *random.pick(&[M + 1, -M - 1, i64::MIN, i64::MAX])],
+    };
+    problem.lengths.insert(0, 1);
+    problem.literals.splice(0..0, literal);
+}
+
+fn damage_buffers(random: &mut Random, case: &mut Damaged) {
+    match random.below(4) {
+        0 => case.point += 1,
+        1 => case.point -= 1,
+        2 => case.work -= 1,
+        _ => case.work = 0,
+    }
+}

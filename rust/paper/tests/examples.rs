@@ -1,0 +1,92 @@
+//! The paper's examples through the public calls.
+
+use paper::{
+    answer, line_span, solve, translate, workspace_need, Answer, Counts, Solved, Translated,
+};
+
+fn desk(body: &str) -> String {
+    String::from_utf8(answer(format!("RUL 1\n{body}\n").as_bytes())).expect("plain text")
+}
+
+/// Solves with buffers of the right size.
+fn solved(ranges: &[i64], primitives: &[i64], literals: &[i64], budget: i64) -> (Solved, Vec<i64>) {
+    let lengths = vec![1; literals.len() / 3];
+    let mut point = vec![77; ranges.len() / 2];
+    let mut work = vec![77; workspace_need(ranges).1];
+    let solved = solve(ranges, primitives, &lengths, literals, budget, &mut point, &mut work);
+    assert!(work.iter().all(|&number| number == 0));
+    (solved, point)
+}
+
+fn none(sweeps: i64) -> Solved {
+    Solved { answer: Ok(Answer::None), sweeps }
+}
+
+#[test]
+fn p1_the_first_sheet() {
+    let sheet = "range w 1 10\nrange h 1 10\nmust w * h = 35\nmust w < h";
+    assert_eq!(desk(sheet), "FOUND 6\nw 5\nh 7\n");
+    let mut ranges = [9; 256];
+    let (mut primitives, mut lengths, mut literals) = ([9; 1_024], [9; 256], [9; 3_072]);
+    let mut names = [b'9'; 1_024];
+    let translated = translate(
+        format!("RUL 1\n{sheet}\n").as_bytes(),
+        &mut ranges,
+        &mut primitives,
+        &mut lengths,
+        &mut literals,
+        &mut names,
+    );
+    let counts = Counts { quantities: 6, declared: 2, primitives: 3, clauses: 3, literals: 3 };
+    assert_eq!(translated, Translated::Accepted(counts));
+    assert_eq!(ranges[..13], [1, 10, 1, 10, 1, 100, 35, 35, -34, 65, -9, 9, 9]);
+    assert_eq!(primitives[..13], [2, 2, 0, 1, 1, 2, 4, 3, 1, 0, 5, 1, 9]);
+    assert_eq!(lengths[..4], [1, 1, 1, 9]);
+    assert_eq!(literals[..10], [4, 0, 0, 4, 1, 0, 5, 0, -1, 9]);
+    assert_eq!(&names[..17], b"w       h       9");
+    assert_eq!(workspace_need(&ranges[..12]), (27, 336));
+}
+
+#[test]
+fn p2_to_p5_counts_and_floors() {
+    assert_eq!(desk("range x 0 3\nmust x ^2 = 2"), "NONE 3\n");
+    assert_eq!(desk("range x 0 3\nrange y 0 3\nmust x + y = 3"), "FOUND 7\nx 0\ny 3\n");
+    let ranges = [0, 3, 0, 3, 0, 6, 3, 3, -3, 3];
+    let primitives = [1, 2, 0, 1, 1, 2, 4, 3];
+    let with_budget = |budget| solved(&ranges, &primitives, &[4, 0, 0, 4, 1, 0], budget);
+    let stopped = |sweeps| Solved { answer: Ok(Answer::Stopped), sweeps };
+    let (p4, floor) = with_budget(5);
+    assert_eq!((p4, &floor[..2]), (stopped(5), &[0, 2][..]));
+    let (p5, floor) = with_budget(0);
+    assert_eq!((p5, &floor[..2]), (stopped(0), &[0, 0][..]));
+}
+
+#[test]
+fn p8_and_p11_are_empty() {
+    let m = paper::M;
+    let product = [2, 0, 1, 2];
+    assert_eq!(solved(&[7, 7, -100, 100, 2, 2], &product, &[], 9), (none(1), vec![77; 3]));
+    assert_eq!(solved(&[0, m, m, m, m, m], &product, &[], 9), (none(1), vec![77; 3]));
+}
+
+#[test]
+fn p12_halves_towards_minus_infinity() {
+    let found = Solved { answer: Ok(Answer::Found), sweeps: 2 };
+    assert_eq!(solved(&[-1, 0], &[], &[], 9), (found, vec![-1]));
+}
+
+#[test]
+fn the_other_examples() {
+    assert_eq!(desk("range a 1000G 1000G"), "FOUND 1\na 1000000000000\n");
+    assert_eq!(desk("range a 1001G 1001G"), "REFUSED 24 2\n");
+    assert_eq!(desk("range a\nrange b\nmust a * b + 1 <= 5"), "REFUSED 28 4\n");
+    assert!(desk("range a\nrange b\nmust a * b <= 5").starts_with("FOUND"));
+    assert_eq!(desk("must 1 <= 2"), "REFUSED 30 0\n");
+    assert_eq!(desk("range x 1 4\nmust x * x = 10"), "NONE 4\n");
+}
+
+#[test]
+fn one_line_of_a_text() {
+    assert_eq!(line_span(b"RUL 1\nrange a\n", 2), (6, 13));
+    assert_eq!(line_span(b"RUL 1\nrange a\n", 3), (14, 14));
+}
