@@ -1,8 +1,8 @@
 -- One cut as the code makes it: the tests are those of `cutTo` on what the two ranges have in common, and spans with the same in common with the old range cut alike.
 use mathlib.Core.Path.{_≡_, refl, sym, ap, ap₂, subst, _∙_}
-use mathlib.Core.Logic.{_≢_, ⊎-elim}
+use mathlib.Core.Logic.{_≢_, _⊎_, ⊎-elim}
 use mathlib.Core.List.{List, [], _∷_, _++_}
-use mathlib.Core.Bool.{true, false}
+use mathlib.Core.Bool.{Bool, true, false, cond}
 use Prim.Native.Nat.{ℕ, _+_, _*_, _<_}
 use native.Mathlib.Omega.{arith}
 use borrow.Author.Tests.{eqb-true, eqb-false}
@@ -13,17 +13,18 @@ use denote.Enum.Declared.{tagOf}
 use Rattle.whole.specs.Numbers.{minZ, maxZ}
 use Rattle.whole.specs.inner.Held.{heldSpan, Good}
 use Rattle.whole.specs.declared.Range.{Range}
-use Rattle.whole.proofs.Kit.{ints, nears, min-parts, max-parts}
+use Rattle.whole.proofs.Kit.{ints, nears, min-parts, max-parts, lt-or-le}
 use Rattle.whole.proofs.Held.{Meeting, neither, alike, meeting}
 use Rattle.whole.proofs.Spans.{ends-is}
 use Rattle.problem.proofs.Tests.{by-bool}
 use Rattle.problem.specs.Problem.{Box, lowAt, highAt, rangeAt}
 use Rattle.narrow.specs.Cuts.{meetOf, putAt, Result, gone, moved, still, cutTo, cutOf, Cut, stay, to, Step, act, marked, next, steps}
-use Rattle.narrow.specs.inner.Done.{Has, Fine, Seen, resultAs, Done}
+use Rattle.narrow.specs.inner.Done.{Has, Fine, Seen, Replaced, resultAs, Done}
 use Rattle.narrow.specs.declared.Status.{Status}
 use Rattle.narrow.specs.declared.Status.the-variants.{Empty, Changed, Same}
 use Rattle.narrow.proofs.Status.{the-type as status-type}
 use Rattle.narrow.proofs.Boxes.{put-long, low-or, high-or, put-low, put-high}
+use Rattle.narrow.proofs.Cuts.{Quiet}
 use Rattle.narrow.proofs.Steps.{steps-append, steps-gone}
 
 -- ---- the definition, test by test
@@ -131,7 +132,19 @@ module _ (q : ℕ) (s : Range) (p : Status) (b : Box) (f : Fine b) (h : Has b q)
       all Changed = ap marked (cut-is ∙ cut-same q old new b k l m)
       all Same = cut-is ∙ cut-same q old new b k l m
 
--- ---- steps done, one after the other
+  -- ---- and `replace`, where an end moves
+  module _ {r : Status} {b′ : Box} (d : Replaced q new b r b′) (n : p ≡ Empty → ⊥) where
+    done-some : new .low ≤ℤ new .high → cutTo q old new b ≡ moved (putAt b q new) → Done ((λ _. to q s) ∷ []) p b r b′
+    done-some k e = let g = d .some k in subst (λ (x : Status). Done ((λ _. to q s) ∷ []) p b x b′) (sym (g .0)) (put-done n k e b′ (g .1))
+
+    pub done-replaced : (old .low <ℤ new .low) ⊎ (new .high <ℤ old .high) → Done ((λ _. to q s) ∷ []) p b r b′
+    done-replaced m =
+        ⊎-elim
+        (λ k. let g = d .none k in subst (λ (x : Status). Done ((λ _. to q s) ∷ []) p b x b′) (sym (g .0)) (subst (Done ((λ _. to q s) ∷ []) p b Empty) (sym (g .1)) (done-gone k)))
+        (λ k. done-some k (⊎-elim (cut-raised q old new b k) (λ l. cut-lowered q old new b k l (⊎-elim (λ i. absurd (omega ints)) (λ i. i) m)) (lt-or-le (old .low) (new .low))))
+        (lt-or-le (new .high) (new .low))
+
+-- ---- a step done
 -- a step that says a cut does what the cut does
 pub next-at : (st : Step) (k : Cut) (p : Status) (b : Box) → st b ≡ k → next (resultAs p b) (λ _. k) ≡ next (resultAs p b) st
 next-at st k Empty b e = refl
@@ -177,10 +190,60 @@ done-quiet st {q} {t} p b f h e l u =
     let hi : new .high ≡ highAt b q = omega (ints, min-parts (highAt b q) (t .high)) in
     done-by st e (done-same q t p b f h (rangeAt b q) new (record { is = refl; good = g }) refl (omega ints) (omega ints) (omega ints)) refl
 
+-- ---- after a cut that leaves something the same cut is quiet
+abbrev Settled : ℕ → Range → Result → Type 0
+Settled q t gone = Unit {0}
+Settled q t (moved b) = Quiet b (to q t)
+Settled q t (still b) = Quiet b (to q t)
+
+module _ (q : ℕ) (t : Range) (b : Box) (h : Has b q) where
+  abbrev new : Range
+  new = meetOf (rangeAt b q) t
+
+  put-settled : Quiet (putAt b q new) (to q t)
+  put-settled =
+      (omega (ints, put-low b q new (omega arith), max-parts (lowAt b q) (t .low)), omega (ints, put-high b q new h, min-parts (highAt b q) (t .high)))
+
+  cut-settled : Settled q t (cutOf q t b)
+  unfolding cutOf cutTo
+  cut-settled = go (ltZ (new .high) (new .low)) (ltZ (lowAt b q) (new .low)) refl (ltZ (new .high) (highAt b q)) refl
+    where
+      go : (e f : Bool) → ltZ (lowAt b q) (new .low) ≡ f → (g : Bool) → ltZ (new .high) (highAt b q) ≡ g → Settled q t (cond e gone (cond f (moved (putAt b q new)) (cond g (moved (putAt b q new)) (still b))))
+      go true f k g l = tt
+      go false true k g l = put-settled
+      go false false k true l = put-settled
+      go false false k false l = (omega (ints, max-parts (lowAt b q) (t .low)), omega (ints, min-parts (highAt b q) (t .high)))
+
+  next-settled : (p : Status) → Settled q t (next (resultAs p b) (λ _. to q t))
+  next-settled Empty = tt
+  next-settled Changed = go (cutOf q t b) cut-settled
+    where
+      go : (r : Result) → Settled q t r → Settled q t (marked r)
+      go gone k = k
+      go (moved c) k = k
+      go (still c) k = k
+  next-settled Same = cut-settled
+
+pub done-settled : (st : Step) {q : ℕ} {t : Range} {p r : Status} {b b′ : Box} → st b ≡ to q t → Has b q → Done (st ∷ []) p b r b′ → (r ≡ Empty → ⊥) → Quiet b′ (to q t)
+done-settled st {q} {t} {p} {r} {b} {b′} e h d n = go r n (subst (Settled q t) (next-at st (to q t) p b e ∙ sym (d .says)) (next-settled q t b h p))
+  where
+    go : (r : Status) → (r ≡ Empty → ⊥) → Settled q t (resultAs r b′) → Quiet b′ (to q t)
+    go Empty n k = absurd (n refl)
+    go Changed n k = k
+    go Same n k = k
+
+-- ---- one after the other
 pub done-then : {ss ts : List Step} {p r t : Status} {a b c : Box} → Done ss p a r b → Done ts r b t c → Done (ss ++ ts) p a t c
 done-then {ss} {ts} {p} {r} {t} {a} {b} {c} d e =
     record { says = e .says ∙ ap (λ (x : Result). steps x ts) (d .says) ∙ sym (steps-append (resultAs p a) ss ts); fine = e .fine }
 
+-- the same status and box, by another name
+pub done-at : {ss : List Step} {p r r′ : Status} {a b b′ : Box} → b ≡ b′ → r ≡ r′ → Done ss p a r b → Done ss p a r′ b′
+done-at {ss} {p} {r} {r′} {a} {b} {b′} e f d = subst (λ (x : Status). Done ss p a x b′) f (subst (Done ss p a r) e d)
+
 -- after an empty range nothing follows
 pub done-empty : {ss : List Step} {p : Status} {a b : Box} → Done ss p a Empty b → (ts : List Step) → Done (ss ++ ts) p a Empty b
 done-empty {ss} {p} {a} {b} d ts = done-then d (record { says = sym (steps-gone ts); fine = d .fine })
+
+pub done-ended : {ss : List Step} {p r : Status} {a b : Box} → Done ss p a r b → r ≡ Empty → (ts : List Step) → Done (ss ++ ts) p a Empty b
+done-ended {ss} {p} {r} {a} {b} d e ts = done-empty (subst (λ (x : Status). Done ss p a x b) e d) ts

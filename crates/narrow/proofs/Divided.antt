@@ -1,36 +1,23 @@
 -- Quotients by two divisions: a quotient by a number above 0 grows with what is divided, and falls or grows with the divisor by the sign of what is divided; with both signs turned it is the same.
-use mathlib.Core.Path.{_≡_, sym, ap, ap₂, _∙_}
-use mathlib.Core.Logic.{⊎-elim}
-use mathlib.Core.Bool.{true, false}
+use mathlib.Core.Path.{_≡_, refl, sym, ap, ap₂, subst, _∙_}
+use mathlib.Core.Logic.{_⊎_, inl, inr, ⊎-elim}
+use mathlib.Core.Bool.{Bool, true, false}
 use Prim.Native.Nat.{ℕ}
-use lib.IntN.{ℤ, pos, negsuc, negℤ, _-ℤ_, _*ℤ_}
-use lib.Signed.{ltZ, _≤ℤ_, _<ℤ_}
+use lib.Dec.{T}
+use lib.IntN.{ℤ, pos, negsuc, negℤ, _*ℤ_}
+use lib.Signed.{ltZ, leZ, _≤ℤ_, _<ℤ_}
 use Rattle.whole.specs.Numbers.{Near, minZ, maxZ, min4, max4, floorQ, ceilQ}
 use Rattle.whole.specs.Ranges.{range, holdsZero}
-use Rattle.whole.specs.inner.Held.{held, Good}
+use Rattle.whole.specs.inner.Held.{Good}
 use Rattle.whole.specs.declared.Range.{Range}
-use Rattle.whole.proofs.Kit.{ints, nears, at, Holds, made, rn, minus, times, cross, min-parts, max-parts, neg-P, neg-N, lt-or-le, *ℤ-mono}
+use Rattle.whole.proofs.Kit.{ints, times, cross, min-parts, max-parts, neg-P, neg-N, lt-or-le, *ℤ-mono}
 use Rattle.whole.proofs.Division.{floor-under, ceiling-over}
-use Rattle.whole.proofs.Held.{held-lt, lt-held}
-use Rattle.whole.proofs.Quotients.{floor-from, ceiling-from, floor-mono, ceiling-mono, floor-turned, ceiling-turned}
-use Rattle.whole.proofs.Spans.{ends-is, clear}
+use Rattle.whole.proofs.Quotients.{floor-from, floor-to, ceiling-from, ceiling-to, floor-mono, ceiling-mono, floor-turned, ceiling-turned}
+use Rattle.whole.proofs.Spans.{ends-is}
+use Rattle.problem.proofs.Tests.{by-bool}
 use Rattle.narrow.specs.Cuts.{meetOf, stay, to}
 use Rattle.narrow.specs.Narrowing.{quotientSpan, quotientCut}
-
--- ---- an end that a product settles
-module _ (low z d : ℤ) (near : Near z) (k : pos 0 <ℤ d) where
-  pub low-settled : ltZ (held (low *ℤ d)) z ≡ false → maxZ low low ≡ maxZ low (ceilQ z d)
-  low-settled e =
-      let f : ltZ (low *ℤ d) z ≡ false = sym (held-lt (low *ℤ d) z near) ∙ e in
-      let h = ceiling-from low d z k (omega ints) in
-      omega (ints, max-parts low low, max-parts low (ceilQ z d))
-
-module _ (high z d : ℤ) (near : Near z) (k : pos 0 <ℤ d) where
-  pub high-settled : ltZ z (held (high *ℤ d)) ≡ false → minZ high high ≡ minZ high (floorQ z d)
-  high-settled e =
-      let f : ltZ z (high *ℤ d) ≡ false = sym (lt-held (high *ℤ d) z near) ∙ e in
-      let h = floor-from high d z k (omega ints) in
-      omega (ints, min-parts high high, min-parts high (floorQ z d))
+use Rattle.narrow.specs.inner.Product.{Moving}
 
 -- ---- a divisor above 0 and a larger one
 module _ (z c d : ℤ) (k : pos 0 <ℤ c) (h : c ≤ℤ d) where
@@ -93,7 +80,7 @@ module _ (z y : Range) (oz : z .low ≤ℤ z .high) (oy : y .low ≤ℤ y .high)
   k′ : pos 0 <ℤ y .high
   k′ = omega ints
 
-  least-is : (l : ℤ) → Least z y l → ceilQ (z .low) l ≡ quotientSpan z y .low
+  pub least-is : (l : ℤ) → Least z y l → ceilQ (z .low) l ≡ quotientSpan z y .low
   least-is l (least-low n e) =
       ap (ceilQ (z .low)) e
       ∙ sym (least-1 _ _ _ _ (ceiling-near (z .low) (y .low) (y .high) k oy (omega ints)) (ceiling-mono (z .low) (z .high) (y .low) k oz) (ceiling-mono (z .low) (z .high) (y .high) k′ oz))
@@ -101,7 +88,7 @@ module _ (z y : Range) (oz : z .low ≤ℤ z .high) (oy : y .low ≤ℤ y .high)
       ap (ceilQ (z .low)) e
       ∙ sym (least-2 _ _ _ _ (ceiling-far (z .low) (y .low) (y .high) k oy n) (ceiling-mono (z .low) (z .high) (y .low) k oz) (ceiling-mono (z .low) (z .high) (y .high) k′ oz))
 
-  greatest-is : (l : ℤ) → Greatest z y l → floorQ (z .high) l ≡ quotientSpan z y .high
+  pub greatest-is : (l : ℤ) → Greatest z y l → floorQ (z .high) l ≡ quotientSpan z y .high
   greatest-is l (greatest-high n e) =
       ap (floorQ (z .high)) e
       ∙ sym (greatest-4 _ _ _ _ (floor-far (z .high) (y .low) (y .high) k oy (omega ints)) (floor-mono (z .low) (z .high) (y .low) k oz) (floor-mono (z .low) (z .high) (y .high) k′ oz))
@@ -123,15 +110,60 @@ module _ (z y : Range) (g : Good y) (k : pos 0 <ℤ y .low) (l : ℤ) where
   greatest-divides (greatest-high n e) = let h = g .high in let o = g .ordered in omega ints
   greatest-divides (greatest-low n e) = let h = g .low in omega ints
 
--- what the code has: a low end and a high end that cut x as the quotients do
-module _ (x z y : Range) (gz : Good z) (gy : Good y) (k : pos 0 <ℤ y .low) where
-  pub above-low : {r r′ xl zl l : ℤ} → r′ ≡ r → xl ≡ x .low → zl ≡ z .low → Least z y l → maxZ xl r ≡ maxZ xl (ceilQ zl l) → maxZ (x .low) r′ ≡ maxZ (x .low) (quotientSpan z y .low)
-  above-low {r} {r′} {xl} {zl} {l} er ex ez p e =
-      ap₂ maxZ (sym ex) er ∙ e ∙ ap₂ maxZ ex (ap (λ (a : ℤ). ceilQ a l) ez ∙ least-is z y (gz .ordered) (gy .ordered) k l p)
+no : false ≡ true → ⊥
+no e = subst T (sym e) tt
 
-  pub above-high : {r r′ xh zh l : ℤ} → r′ ≡ r → xh ≡ x .high → zh ≡ z .high → Greatest z y l → minZ xh r ≡ minZ xh (floorQ zh l) → minZ (x .high) r′ ≡ minZ (x .high) (quotientSpan z y .high)
-  above-high {r} {r′} {xh} {zh} {l} er ex ez p e =
-      ap₂ minZ (sym ex) er ∙ e ∙ ap₂ minZ ex (ap (λ (a : ℤ). floorQ a l) ez ∙ greatest-is z y (gz .ordered) (gy .ordered) k l p)
+yes : true ≡ false → ⊥
+yes e = subst T e tt
+
+-- ---- whether an end of x moves: a product tells, for x is past a quotient exactly where x times the divisor is past what is divided
+module _ (x z y : Range) where
+  pub moves-not : y .low ≤ℤ pos 0 → Moving x z y false
+  moves-not h = record {
+    above = λ e. absurd (no e);
+    moved = λ e. absurd (no e);
+    low = λ e k. absurd (omega ints);
+    high = λ e k. absurd (omega ints);
+  }
+
+  module _ (oz : z .low ≤ℤ z .high) (gy : Good y) (k : pos 0 <ℤ y .low) where
+    pub moves-low : (l : ℤ) → Least z y l → ltZ (x .low *ℤ l) (z .low) ≡ true → Moving x z y true
+    moves-low l p e =
+        let d = least-divides z y gy k l p .above in
+        let i = least-is z y oz (gy .ordered) k l p in
+        let up : x .low <ℤ quotientSpan z y .low = ⊎-elim (λ m. m) (λ m. let n = ceiling-to (x .low) l (z .low) d (omega ints) in absurd (omega ints)) (lt-or-le (x .low) (quotientSpan z y .low)) in
+        record { above = λ _. k; moved = λ _. inl up; low = λ f. absurd (yes f); high = λ f. absurd (yes f) }
+
+    pub moves-high : (l g : ℤ) → Least z y l → Greatest z y g → ltZ (x .low *ℤ l) (z .low) ≡ false → (r : Bool) → r ≡ ltZ (z .high) (x .high *ℤ g) → Moving x z y r
+    moves-high l g p q e r f = record {
+      above = λ _. k;
+      moved = λ t. inr (⊎-elim (λ m. m) (λ m. let v = j in let u : ltZ (z .high) (x .high *ℤ g) ≡ true = sym f ∙ t in let n = floor-to (x .high) g (z .high) d (omega ints) in absurd (omega ints)) (lt-or-le (quotientSpan z y .high) (x .high)));
+      low = λ t _. let v = i in let n = ceiling-from (x .low) l (z .low) c (omega ints) in omega ints;
+      high = λ t _. let v = j in let u : ltZ (z .high) (x .high *ℤ g) ≡ false = sym f ∙ t in let n = floor-from (x .high) g (z .high) d (omega ints) in omega ints;
+    }
+      where
+        c : pos 0 <ℤ l
+        c = least-divides z y gy k l p .above
+
+        d : pos 0 <ℤ g
+        d = greatest-divides z y gy k g q .above
+
+        i : ceilQ (z .low) l ≡ quotientSpan z y .low
+        i = least-is z y oz (gy .ordered) k l p
+
+        j : floorQ (z .high) g ≡ quotientSpan z y .high
+        j = greatest-is z y oz (gy .ordered) k g q
+
+-- of the ranges that were read
+pub moves-read : {x x′ z z′ y y′ : Range} {r : Bool} → x ≡ x′ → z ≡ z′ → y ≡ y′ → Moving x z y r → Moving x′ z′ y′ r
+moves-read {x} {x′} {z} {z′} {y} {y′} {r} ex ez ey m = subst (λ (t : Range). Moving t z′ y′ r) ex (subst (λ (t : Range). Moving x t y′ r) ez (subst (λ (t : Range). Moving x z t r) ey m))
+
+-- an end that moves, of what x and the quotients have in common
+pub moved-meets : (x s : Range) → (x .low <ℤ s .low) ⊎ (s .high <ℤ x .high) → (x .low <ℤ meetOf x s .low) ⊎ (meetOf x s .high <ℤ x .high)
+moved-meets x s m = ⊎-elim (λ h. inl (omega (ints, max-parts (x .low) (s .low)))) (λ h. inr (omega (ints, min-parts (x .high) (s .high)))) m
+
+pub moved-read : {o x n m : Range} → o ≡ x → n ≡ m → (x .low <ℤ m .low) ⊎ (m .high <ℤ x .high) → (o .low <ℤ n .low) ⊎ (n .high <ℤ o .high)
+moved-read {o} {x} {n} {m} e f h = subst (λ (r : Range). (r .low <ℤ n .low) ⊎ (n .high <ℤ r .high)) (sym e) (subst (λ (r : Range). (x .low <ℤ r .low) ⊎ (r .high <ℤ x .high)) (sym f) h)
 
 -- ---- both signs turned
 abbrev pub turned : Range → Range
@@ -169,27 +201,44 @@ turned-span z y o h =
     m : y .low ≡ pos 0 → ⊥
     m e = omega ints
 
--- a near number turned by the machine
-pub turn : (z : ℤ) → Near z → Holds (pos 0 -ℤ at z) (negℤ z)
-turn z h = made (ap (λ (x : ℤ). pos 0 -ℤ x) (rn z h) ∙ e) (let l = h in omega (nears, neg-P z, neg-N z))
-  where
-    e : pos 0 -ℤ z ≡ negℤ z
-    e = omega (ints, minus (pos 0) z, neg-P z, neg-N z)
+-- the end of y below 0 that gives the least, and the one that gives the greatest
+module _ (z y : Range) (gy : Good y) (h : y .high <ℤ pos 0) (l : ℤ) where
+  apart-from : {a : ℤ} → pos 0 <ℤ negℤ a → a ≡ pos 0 → ⊥
+  apart-from {a} i e = omega (ints, neg-P a, neg-N a)
 
--- a range that holds no 0 and is not above 0 is below
-pub below : (y : Range) → holdsZero y ≡ false → y .low ≤ℤ pos 0 → y .high <ℤ pos 0
-below y e h = ⊎-elim (λ k. absurd (omega ints)) (λ k. k) (clear y e)
+  below-divides : Divisor (negℤ l) → Near l × (l ≡ pos 0 → ⊥)
+  below-divides d = let n = d .near in (omega (ints, neg-P l, neg-N l), apart-from (d .above))
 
--- ---- calls
-pub divides : (a b : ℤ) → Near a → Near b → pos 0 <ℤ b → Near (at a) × (Near (at b) × (at b ≡ pos 0 → ⊥))
-divides a b h k p = (omega nears, (omega nears, λ e. omega nears))
+  pub least-below-divides : Least (turned z) (turned y) (negℤ l) → Near l × (l ≡ pos 0 → ⊥)
+  least-below-divides p = below-divides (least-divides (turned z) (turned y) (turned-good y gy) (turned-above y h) (negℤ l) p)
 
+  pub greatest-below-divides : Greatest (turned z) (turned y) (negℤ l) → Near l × (l ≡ pos 0 → ⊥)
+  greatest-below-divides p = below-divides (greatest-divides (turned z) (turned y) (turned-good y gy) (turned-above y h) (negℤ l) p)
+
+  pub least-below : Good z → Least (turned z) (turned y) (negℤ l) → ceilQ (z .high) l ≡ quotientSpan z y .low
+  least-below gz p =
+      let d = least-divides (turned z) (turned y) (turned-good y gy) (turned-above y h) (negℤ l) p .above in
+      sym (ceiling-turned (z .high) l (apart-from d))
+      ∙ least-is (turned z) (turned y) (turned-good z gz .ordered) (turned-good y gy .ordered) (turned-above y h) (negℤ l) p
+      ∙ ap (λ (s : Range). s .low) (turned-span z y (gy .ordered) h)
+
+  pub greatest-below : Good z → Greatest (turned z) (turned y) (negℤ l) → floorQ (z .low) l ≡ quotientSpan z y .high
+  greatest-below gz p =
+      let d = greatest-divides (turned z) (turned y) (turned-good y gy) (turned-above y h) (negℤ l) p .above in
+      sym (floor-turned (z .low) l (apart-from d))
+      ∙ greatest-is (turned z) (turned y) (turned-good z gz .ordered) (turned-good y gy .ordered) (turned-above y h) (negℤ l) p
+      ∙ ap (λ (s : Range). s .high) (turned-span z y (gy .ordered) h)
+
+-- ---- the step
 pub quotient-stay : (x : ℕ) (z y : Range) → holdsZero y ≡ true → quotientCut x z y ≡ stay
 quotient-stay x z y e = rw e
 
 pub quotient-to : (x : ℕ) (z y : Range) → holdsZero y ≡ false → quotientCut x z y ≡ to x (quotientSpan z y)
 quotient-to x z y e = rw e
 
--- what was computed of the ranges that were read
-pub meet-read : (s : Range) {x x′ z z′ y y′ : Range} → x ≡ x′ → z ≡ z′ → y ≡ y′ → meetOf x s ≡ meetOf x (quotientSpan z y) → meetOf x′ s ≡ meetOf x′ (quotientSpan z′ y′)
-meet-read s ex ez ey e = sym (ap (λ (r : Range). meetOf r s) ex) ∙ e ∙ ap₂ meetOf ex (ap₂ quotientSpan ez ey)
+-- y is above 0, or below
+pub no-zero-above : (y : Range) → pos 0 <ℤ y .low → holdsZero y ≡ false
+no-zero-above y h = let e : leZ (y .low) (pos 0) ≡ false = omega ints in rw e
+
+pub no-zero-below : (y : Range) → y .high <ℤ pos 0 → holdsZero y ≡ false
+no-zero-below y h = let e : leZ (pos 0) (y .high) ≡ false = omega ints in by-bool (leZ (y .low) (pos 0)) (λ f. rw (f, e)) (λ f. rw f)

@@ -1,4 +1,4 @@
--- A clause read from a place on: the positions from there on that are not false are what is left of the whole; none, one or a second one decides the cut.
+-- A clause read position by position: those read that are not false, and those still to read, are the positions that are not false; none, one or a second one decides the cut.
 use mathlib.Core.Path.{_≡_, refl, sym, ap, ap₂, subst, _∙_}
 use mathlib.Core.List.{List, [], _∷_}
 use mathlib.Core.Bool.{Bool, true, false}
@@ -8,7 +8,9 @@ use lib.ListN.{drop}
 use lib.IntN.{ℤ}
 use lib.Signed.{ltZ}
 use Rattle.whole.specs.Ranges.{range}
-use Rattle.problem.specs.Problem.{Box, lowAt, highAt}
+use Rattle.whole.specs.declared.Range.{Range}
+use Rattle.whole.proofs.Spans.{ends-is}
+use Rattle.problem.specs.Problem.{Box, lowAt, highAt, rangeAt}
 use Rattle.problem.specs.Lists.{literalsOf}
 use Rattle.problem.specs.inner.Placed.{literalAt}
 use Rattle.problem.specs.declared.Literal.{Literal}
@@ -17,32 +19,34 @@ use Rattle.problem.proofs.Lists.{literals-at, literals-end}
 use Rattle.narrow.specs.Cuts.{gone, void, to, next}
 use Rattle.narrow.specs.Narrowing.{isFalse, openOf, literalCut, unitCut, clauseStep}
 use Rattle.narrow.specs.inner.Done.{Has, Fine, resultAs, Done}
-use Rattle.narrow.specs.inner.Clause.{quantityOf, Lits, openFrom, First}
+use Rattle.narrow.specs.inner.Clause.{quantityOf, askedOf, Lits}
 use Rattle.narrow.specs.declared.Status.{Status}
 use Rattle.narrow.specs.declared.Status.the-variants.{Empty, Changed, Same}
 use Rattle.narrow.proofs.Cutting.{next-at, done-span, done-stay}
 
 -- ---- one literal
-module _ (b : Box) {l : Literal} {q : ℕ} {c : ℤ} where
-  pub most-has : l ≡ AtMost q c → Has b (quantityOf l) → Has b q
-  most-has e h = subst (λ (m : Literal). Has b (quantityOf m)) e h
+-- the range that it asks is empty, or cuts
+false-asked : (b : Box) (l : Literal) → ltZ (askedOf b l .high) (askedOf b l .low) ≡ isFalse b l
+false-asked b (AtMost q c) = refl
+false-asked b (AtLeast q c) = refl
 
-  pub least-has : l ≡ AtLeast q c → Has b (quantityOf l) → Has b q
-  least-has e h = subst (λ (m : Literal). Has b (quantityOf m)) e h
+cut-asked : (b : Box) (l : Literal) → literalCut b l ≡ to (quantityOf l) (askedOf b l)
+cut-asked b (AtMost q c) = refl
+cut-asked b (AtLeast q c) = refl
 
-  module _ {c′ x : ℤ} (ec : c′ ≡ c) where
-    pub most-false : l ≡ AtMost q c → x ≡ lowAt b q → ltZ c′ x ≡ isFalse b l
-    most-false e ex = ap₂ ltZ ec ex ∙ sym (ap (isFalse b) e)
+module _ (b : Box) (l : Literal) {s : Range} (asked : s ≡ askedOf b l) where
+  pub asked-false : {low high : ℤ} → low ≡ s .low → high ≡ s .high → ltZ high low ≡ isFalse b l
+  asked-false el eh = ap₂ ltZ eh el ∙ ap (λ (r : Range). ltZ (r .high) (r .low)) asked ∙ false-asked b l
 
-    pub least-false : l ≡ AtLeast q c → x ≡ highAt b q → ltZ x c′ ≡ isFalse b l
-    least-false e ex = ap₂ ltZ ex ec ∙ sym (ap (isFalse b) e)
+  pub asked-cut : {q : ℕ} → q ≡ quantityOf l → {p r : Status} {b′ : Box} → Done ((λ _. to q s) ∷ []) p b r b′ → Done ((λ a. literalCut a l) ∷ []) p b r b′
+  asked-cut e d = done-span (λ a. literalCut a l) (cut-asked b l ∙ ap (λ (k : ℕ). to k (askedOf b l)) (sym e)) d asked
 
-    module _ {p r : Status} {b′ : Box} where
-      pub most-cut : l ≡ AtMost q c → x ≡ lowAt b q → Done ((λ _. to q (range x c′)) ∷ []) p b r b′ → Done ((λ a. literalCut a l) ∷ []) p b r b′
-      most-cut e ex d = done-span (λ a. literalCut a l) (ap (literalCut b) e) d (ap₂ range ex ec)
+module _ (b : Box) (l : Literal) {own : Range} (seen : own ≡ rangeAt b (quantityOf l)) {q : ℕ} {c low high : ℤ} where
+  pub most-asked : l ≡ AtMost q c → low ≡ own .low → high ≡ c → range low high ≡ askedOf b l
+  most-asked e el eh = ends-is (el ∙ ap (λ (r : Range). r .low) seen ∙ ap (λ (m : Literal). lowAt b (quantityOf m)) e) eh ∙ sym (ap (askedOf b) e)
 
-      pub least-cut : l ≡ AtLeast q c → x ≡ highAt b q → Done ((λ _. to q (range c′ x)) ∷ []) p b r b′ → Done ((λ a. literalCut a l) ∷ []) p b r b′
-      least-cut e ex d = done-span (λ a. literalCut a l) (ap (literalCut b) e) d (ap₂ range ec ex)
+  pub least-asked : l ≡ AtLeast q c → low ≡ c → high ≡ own .high → range low high ≡ askedOf b l
+  least-asked e el eh = ends-is el (eh ∙ ap (λ (r : Range). r .high) seen ∙ ap (λ (m : Literal). highAt b (quantityOf m)) e) ∙ sym (ap (askedOf b) e)
 
 -- ---- the positions that are not false
 open-skip : (b : Box) (x : Literal) (ls : List Literal) → isFalse b x ≡ true → openOf b (x ∷ ls) ≡ openOf b ls
@@ -53,51 +57,71 @@ open-take : (b : Box) (x : Literal) (ls : List Literal) → isFalse b x ≡ fals
 unfolding openOf
 open-take b x ls e = rw e
 
-module _ (b : Box) (l : List ℤ) (n i k : ℕ) (lits : Lits b l n) (inv : openFrom b l i ≡ openFrom b l k) where
-  at-k : k < n → openFrom b l k ≡ openOf b (literalAt l k ∷ literalsOf (drop (3 * (k + 1)) l))
-  at-k h = ap (openOf b) (literals-at l k (omega (arith, lits .long)))
+-- the positions from k on that are not false
+abbrev openFrom : Box → List ℤ → ℕ → List Literal
+openFrom b l k = openOf b (literalsOf (drop (3 * k) l))
 
-  module _ (h : k < n) {x : Literal} {r : Bool} (ex : x ≡ literalAt l k) (said : r ≡ isFalse b x) where
-    pub first-turn : r ≡ true → openFrom b l i ≡ openFrom b l (k + 1)
-    first-turn e = inv ∙ at-k h ∙ open-skip b (literalAt l k) (literalsOf (drop (3 * (k + 1)) l)) (sym (ap (isFalse b) ex) ∙ sym said ∙ e)
+-- k positions are read: none of them is not false, where only is n, and else just the one at only
+pub record Read (b : Box) (l : List ℤ) (n only k : ℕ) : Type 0 where
+  pub most : k ≤ n
+  pub some : only ≤ n
+  pub none : n ≤ only → openFrom b l 0 ≡ openFrom b l k
+  pub one : only < n → openFrom b l 0 ≡ literalAt l only ∷ openFrom b l k
 
-    pub first-hit : r ≡ false → First b l n i k
-    first-hit e = record {
-      most = omega arith;
-      end = λ g. absurd (omega arith);
-      hit = λ g. inv ∙ at-k h ∙ open-take b (literalAt l k) (literalsOf (drop (3 * (k + 1)) l)) (sym (ap (isFalse b) ex) ∙ sym said ∙ e);
-    }
+pub read-none : (b : Box) (l : List ℤ) (n : ℕ) → Read b l n n 0
+read-none b l n = record { most = omega arith; some = omega arith; none = λ _. refl; one = λ h. absurd (omega arith) }
 
-  pub first-end : n ≤ k → First b l n i n
-  unfolding openOf
-  first-end g = record {
+module _ {b : Box} {l : List ℤ} {n only k : ℕ} (lits : Lits b l n) (read : Read b l n only k) (h : k < n) {x : Literal} {r : Bool} (ex : x ≡ literalAt l k) (said : r ≡ isFalse b x) where
+  here : openFrom b l k ≡ openOf b (literalAt l k ∷ literalsOf (drop (3 * (k + 1)) l))
+  here = ap (openOf b) (literals-at l k (omega (arith, lits .long)))
+
+  is : {t : Bool} → r ≡ t → isFalse b (literalAt l k) ≡ t
+  is e = sym (ap (isFalse b) ex) ∙ sym said ∙ e
+
+  skip : r ≡ true → openFrom b l k ≡ openFrom b l (k + 1)
+  skip e = here ∙ open-skip b (literalAt l k) (literalsOf (drop (3 * (k + 1)) l)) (is e)
+
+  take : r ≡ false → openFrom b l k ≡ literalAt l k ∷ openFrom b l (k + 1)
+  take e = here ∙ open-take b (literalAt l k) (literalsOf (drop (3 * (k + 1)) l)) (is e)
+
+  -- one position more is read: it is false, or it is the first that is not
+  pub read-false : r ≡ true → Read b l n only (k + 1)
+  read-false e = record {
     most = omega arith;
-    end = λ _. inv ∙ ap (openOf b) (literals-end l k (omega (arith, lits .long)));
-    hit = λ f. absurd (omega arith);
+    some = read .some;
+    none = λ g. read .none g ∙ skip e;
+    one = λ g. read .one g ∙ ap (λ (ls : List Literal). literalAt l only ∷ ls) (skip e);
   }
+
+  pub read-open : r ≡ false → n ≤ only → Read b l n k (k + 1)
+  read-open e g = record { most = omega arith; some = omega arith; none = λ f. absurd (omega arith); one = λ _. read .none g ∙ take e }
+
+  -- or it is a second one
+  pub read-many : (p : Status) → Fine b → r ≡ false → only < n → Done (clauseStep (literalsOf l) ∷ []) p b p b
+  read-many p f e g = done-stay (clauseStep (literalsOf l)) p b f (ap (unitCut b) (read .one g ∙ ap (λ (ls : List Literal). literalAt l only ∷ ls) (take e)))
 
 -- the literal that was read
 pub literal-has : {b : Box} {l : List ℤ} {n : ℕ} → Lits b l n → (k : ℕ) → k < n → {x : Literal} → x ≡ literalAt l k → Has b (quantityOf x)
 literal-has {b} {l} lits k h e = subst (λ (m : Literal). Has b (quantityOf m)) (sym e) (lits .has k h)
 
--- ---- the clause
-module _ (b : Box) (l : List ℤ) (n : ℕ) (p : Status) where
-  pub clause-none : Fine b → First b l n 0 n → Done (clauseStep (literalsOf l) ∷ []) p b Empty b
-  clause-none f h = record { says = all p ∙ next-at (clauseStep (literalsOf l)) void p b (ap (unitCut b) (h .end (omega arith))); fine = f }
+-- ---- the clause, when all positions are read
+module _ {b : Box} {l : List ℤ} {n only k : ℕ} (lits : Lits b l n) (read : Read b l n only k) (all : n ≤ k) (p : Status) where
+  rest : openFrom b l k ≡ []
+  unfolding openOf
+  rest = ap (openOf b) (literals-end l k (omega (arith, lits .long)))
+
+  pub clause-none : Fine b → n ≤ only → Done (clauseStep (literalsOf l) ∷ []) p b Empty b
+  clause-none f h = record { says = gone-by p ∙ next-at (clauseStep (literalsOf l)) void p b (ap (unitCut b) (read .none h ∙ rest)); fine = f }
     where
-      all : (p : Status) → gone ≡ next (resultAs p b) (λ _. void)
-      all Empty = refl
-      all Changed = refl
-      all Same = refl
+      gone-by : (p : Status) → gone ≡ next (resultAs p b) (λ _. void)
+      gone-by Empty = refl
+      gone-by Changed = refl
+      gone-by Same = refl
 
-  module _ (i j : ℕ) (h : First b l n 0 i) (less : i < n) (k : First b l n (i + 1) j) where
-    pub clause-many : Fine b → j < n → Done (clauseStep (literalsOf l) ∷ []) p b p b
-    clause-many f g = done-stay (clauseStep (literalsOf l)) p b f (ap (unitCut b) (h .hit less ∙ ap (λ (r : List Literal). literalAt l i ∷ r) (k .hit g)))
-
-    pub clause-one : n ≤ j → {x : Literal} → x ≡ literalAt l i → {r : Status} {b′ : Box} → Done ((λ c. literalCut c x) ∷ []) p b r b′ → Done (clauseStep (literalsOf l) ∷ []) p b r b′
-    clause-one g {x} ex {r} {b′} d = record {
-      says = d .says
-          ∙ sym (next-at (λ c. literalCut c x) (literalCut b (literalAt l i)) p b (ap (literalCut b) ex))
-          ∙ next-at (clauseStep (literalsOf l)) (literalCut b (literalAt l i)) p b (ap (unitCut b) (h .hit less ∙ ap (λ (r : List Literal). literalAt l i ∷ r) (k .end g)));
-      fine = d .fine;
-    }
+  pub clause-one : only < n → {x : Literal} → x ≡ literalAt l only → {r : Status} {b′ : Box} → Done ((λ c. literalCut c x) ∷ []) p b r b′ → Done (clauseStep (literalsOf l) ∷ []) p b r b′
+  clause-one h {x} ex {r} {b′} d = record {
+    says = d .says
+        ∙ sym (next-at (λ c. literalCut c x) (literalCut b (literalAt l only)) p b (ap (literalCut b) ex))
+        ∙ next-at (clauseStep (literalsOf l)) (literalCut b (literalAt l only)) p b (ap (unitCut b) (read .one h ∙ ap (λ (ls : List Literal). literalAt l only ∷ ls) rest));
+    fine = d .fine;
+  }

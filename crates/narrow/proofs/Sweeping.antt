@@ -25,7 +25,7 @@ use Rattle.narrow.specs.inner.Done.{Has, Sited, Fine, resultAs, Done, sw
 use Rattle.narrow.specs.inner.Clause.{quantityOf, Lits}
 use Rattle.narrow.specs.declared.Status.{Status}
 use Rattle.narrow.specs.declared.Status.the-variants.{Empty, Changed, Same}
-use Rattle.narrow.proofs.Cutting.{done-then, done-empty}
+use Rattle.narrow.proofs.Cutting.{done-then, done-ended}
 use Rattle.narrow.proofs.Steps.{steps-append, steps-gone, still-same}
 
 -- ---- some of the steps done
@@ -161,7 +161,7 @@ sweep-done {ps} {cs} {b₀} {b} {r} d = record {
 -- the primitives left an empty range, or the clauses followed
 module _ {ps : List Primitive} {cs : List (List Literal)} {b₀ b : Box} {r : Status} (d : Done (allSteps ps) Same b₀ r b) where
   pub sweep-gone : r ≡ Empty → Sweeps ps cs b₀ Empty b
-  sweep-gone e = sweep-done (done-empty (subst (λ (x : Status). Done (allSteps ps) Same b₀ x b) e d) (map clauseStep cs))
+  sweep-gone e = sweep-done (done-ended d e (map clauseStep cs))
 
   pub sweep-both : {r′ : Status} {b′ : Box} → Done (map clauseStep cs) r b r′ b′ → Sweeps ps cs b₀ r′ b′
   sweep-both f = sweep-done (done-then d f)

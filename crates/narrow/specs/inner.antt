@@ -1,2 +1,3 @@
 pub mod Done
 pub mod Clause
+pub mod Product

@@ -14,7 +14,7 @@ ghost use Rattle.problem.specs.inner.Placed.{Placed};
 ghost use Rattle.narrow.specs.Cuts.{putAt, to};
 ghost use Rattle.narrow.specs.Narrowing.{primitiveSteps, clauseStep};
 ghost use Rattle.narrow.specs.Sweep.{allSteps};
-ghost use Rattle.narrow.specs.inner.Done.{Has, Fine, Seen, Done, Sweeps, Sited};
+ghost use Rattle.narrow.specs.inner.Done.{Has, Fine, Seen, Replaced, Done, Sweeps, Sited};
 use problem::Primitive;
 use whole::Range;
 
@@ -45,6 +45,18 @@ fn put(b: &mut [i64], q: usize, r: Range)
     let high = r.high;
     b[2 * q] = low;
     b[2 * q + 1] = high;
+}
+
+// Where an end of quantity q moves: its range becomes r, unless r is empty.
+fn replace(b: &mut [i64], q: usize, r: Range) -> Status
+    requires { ⌜ Has (now b) q ⌝ }
+    ensures { λ s. ⌜ Replaced q r (now (b .entry)) s (now (b .exit)) ⌝ }
+{
+    if r.high < r.low {
+        return Status::Empty;
+    }
+    put(b, q, r);
+    Status::Changed
 }
 
 // Quantity q is cut to s, unless the box is empty already.

@@ -1,15 +1,16 @@
 // z = x * y.
-ghost use mathlib.Core.Bool.{false};
+ghost use mathlib.Core.Bool.{true, false};
 ghost use mathlib.Core.List.{[], _∷_};
 ghost use mathlib.Core.Path.{_≡_};
 ghost use lib.IntN.{pos};
 ghost use lib.Signed.{_<ℤ_};
-ghost use Rattle.whole.specs.Numbers.{Near, minZ, maxZ, floorQ, ceilQ};
-ghost use Rattle.whole.specs.Ranges.{holdsZero};
 ghost use Rattle.whole.specs.inner.Held.{Good};
-ghost use Rattle.narrow.specs.Cuts.{meetOf};
+ghost use Rattle.problem.specs.Problem.{rangeAt};
 ghost use Rattle.narrow.specs.Narrowing.{productStep, quotientSpan, quotientStep, productSteps};
+ghost use Rattle.narrow.specs.declared.Status.{Status};
+ghost use Rattle.narrow.specs.declared.Status.the-variants.{Empty};
 ghost use Rattle.narrow.specs.inner.Done.{Has, Fine, Done};
+ghost use Rattle.narrow.specs.inner.Product.{Moving};
 use crate::Status;
 use whole::Range;
 
@@ -18,74 +19,83 @@ fn cut_product(b: &mut [i64], z: usize, x: usize, y: usize, prior: Status) -> St
     requires { ⌜ Fine (now b) ⌝ ∗ ⌜ Has (now b) z ⌝ ∗ ⌜ Has (now b) x ⌝ ∗ ⌜ Has (now b) y ⌝ }
     ensures { λ r. ⌜ Done (productStep z x y ∷ []) prior (now (b .entry)) r (now (b .exit)) ⌝ }
 {
-    let s = whole::span::product(crate::range_at(b, x), crate::range_at(b, y));
+    let p = crate::range_at(b, x);
+    let q = crate::range_at(b, y);
+    if p.low < 0 || q.low < 0 {
+        let s = whole::span::product(p, q);
+        return crate::cut(b, z, s, prior);
+    }
+    let s = whole::span::product_above(p, q);
     crate::cut(b, z, s, prior)
 }
 
-// A low end for x by z's low end and a divisor above 0: divided only where x's own low end does not settle it.
-fn low_quotient(low: i64, z: i64, d: i64) -> i64
-    requires { ⌜ Near low ⌝ ∗ ⌜ Near z ⌝ ∗ ⌜ Near d ⌝ ∗ ⌜ pos 0 <ℤ d ⌝ }
-    ensures { λ r. ⌜ maxZ low r ≡ maxZ low (ceilQ z d) ⌝ }
-{
-    if whole::product::times(low, d) < z {
-        return whole::quotient::ceiling(z, d);
-    }
-    low
-}
-
-// A high end for x by z's high end and a divisor above 0, likewise.
-fn high_quotient(high: i64, z: i64, d: i64) -> i64
-    requires { ⌜ Near high ⌝ ∗ ⌜ Near z ⌝ ∗ ⌜ Near d ⌝ ∗ ⌜ pos 0 <ℤ d ⌝ }
-    ensures { λ r. ⌜ minZ high r ≡ minZ high (floorQ z d) ⌝ }
-{
-    if z < whole::product::times(high, d) {
-        return whole::quotient::floor(z, d);
-    }
-    high
-}
-
-// A range that cuts x as the quotients of z by y do, for y above 0: the sign of z's end says which end of y gives the least and which the greatest.
-fn quotient_above(x: Range, z: Range, y: Range) -> Range
-    requires { ⌜ Good x ⌝ ∗ ⌜ Good z ⌝ ∗ ⌜ Good y ⌝ ∗ ⌜ pos 0 <ℤ y .low ⌝ }
-    ensures { λ r. ⌜ meetOf x r ≡ meetOf x (quotientSpan z y) ⌝ }
+// The quotients of z by y above 0: the sign of z's end says which end of y gives the least and which the greatest.
+fn quotient_above(z: Range, y: Range) -> Range
+    requires { ⌜ Good z ⌝ ∗ ⌜ Good y ⌝ ∗ ⌜ pos 0 <ℤ y .low ⌝ }
+    ensures { λ r. ⌜ r ≡ quotientSpan z y ⌝ }
 {
     let least = if z.low < 0 { y.low } else { y.high };
     let greatest = if z.high < 0 { y.high } else { y.low };
     Range {
-        low: low_quotient(x.low, z.low, least),
-        high: high_quotient(x.high, z.high, greatest),
+        low: whole::quotient::up(z.low, least),
+        high: whole::quotient::down(z.high, greatest),
     }
 }
 
-// A range that cuts x as the quotients of z by y do, for y that holds no 0. Below 0 both signs turn.
-fn quotient(x: Range, z: Range, y: Range) -> Range
-    requires { ⌜ Good x ⌝ ∗ ⌜ Good z ⌝ ∗ ⌜ Good y ⌝ ∗ ⌜ holdsZero y ≡ false ⌝ }
-    ensures { λ r. ⌜ meetOf x r ≡ meetOf x (quotientSpan z y) ⌝ }
+// The quotients of z by y below 0, likewise.
+fn quotient_below(z: Range, y: Range) -> Range
+    requires { ⌜ Good z ⌝ ∗ ⌜ Good y ⌝ ∗ ⌜ y .high <ℤ pos 0 ⌝ }
+    ensures { λ r. ⌜ r ≡ quotientSpan z y ⌝ }
 {
-    if 0 < y.low {
-        return quotient_above(x, z, y);
+    let least = if 0 < z.high { y.high } else { y.low };
+    let greatest = if 0 < z.low { y.low } else { y.high };
+    Range {
+        low: whole::quotient::ceiling(z.high, least),
+        high: whole::quotient::floor(z.low, greatest),
     }
-    let turned_z = Range {
-        low: -z.high,
-        high: -z.low,
-    };
-    let turned_y = Range {
-        low: -y.high,
-        high: -y.low,
-    };
-    quotient_above(x, turned_z, turned_y)
 }
 
-// x is cut to the quotients of z by y, if y's range holds no 0.
-fn cut_quotient(b: &mut [i64], x: usize, z: usize, y: usize, prior: Status) -> Status
+// Whether the quotients of z by y above 0 move an end of x: products tell, without a division.
+fn moves(b: &[i64], x: usize, z: usize, y: usize) -> bool
     requires { ⌜ Fine (now b) ⌝ ∗ ⌜ Has (now b) x ⌝ ∗ ⌜ Has (now b) z ⌝ ∗ ⌜ Has (now b) y ⌝ }
+    ensures { λ r. ⌜ Moving (rangeAt (now (b .entry)) x) (rangeAt (now (b .entry)) z) (rangeAt (now (b .entry)) y) r ⌝ }
+{
+    let by = crate::range_at(b, y);
+    if by.low <= 0 {
+        return false;
+    }
+    let old = crate::range_at(b, x);
+    let of = crate::range_at(b, z);
+    let least = if of.low < 0 { by.low } else { by.high };
+    if whole::product::below(old.low, least, of.low) {
+        return true;
+    }
+    let greatest = if of.high < 0 { by.high } else { by.low };
+    whole::product::above(old.high, greatest, of.high)
+}
+
+// x becomes what the quotients of z by y above 0 leave of it, where they move an end.
+fn divide(b: &mut [i64], x: usize, z: usize, y: usize) -> Status
+    requires { ⌜ Fine (now b) ⌝ ∗ ⌜ Has (now b) x ⌝ ∗ ⌜ Has (now b) z ⌝ ∗ ⌜ Has (now b) y ⌝ ∗ ⌜ Moving (rangeAt (now b) x) (rangeAt (now b) z) (rangeAt (now b) y) true ⌝ }
+    ensures { λ r. ⌜ ((p : Status) → (p ≡ Empty → ⊥) → Done (quotientStep x z y ∷ []) p (now (b .entry)) r (now (b .exit))) ⌝ }
+{
+    let s = quotient_above(crate::range_at(b, z), crate::range_at(b, y));
+    let old = crate::range_at(b, x);
+    let low = whole::larger(old.low, s.low);
+    let high = whole::smaller(old.high, s.high);
+    crate::replace(b, x, Range { low, high })
+}
+
+// x is cut to the quotients of z by y if y is below 0; else it stays, as no end moves.
+fn cut_below(b: &mut [i64], x: usize, z: usize, y: usize, prior: Status) -> Status
+    requires { ⌜ Fine (now b) ⌝ ∗ ⌜ Has (now b) x ⌝ ∗ ⌜ Has (now b) z ⌝ ∗ ⌜ Has (now b) y ⌝ ∗ ⌜ Moving (rangeAt (now b) x) (rangeAt (now b) z) (rangeAt (now b) y) false ⌝ }
     ensures { λ r. ⌜ Done (quotientStep x z y ∷ []) prior (now (b .entry)) r (now (b .exit)) ⌝ }
 {
-    let divisor = crate::range_at(b, y);
-    if whole::span::holds_zero(divisor) {
+    let by = crate::range_at(b, y);
+    if 0 <= by.high {
         return prior;
     }
-    let s = quotient(crate::range_at(b, x), crate::range_at(b, z), divisor);
+    let s = quotient_below(crate::range_at(b, z), by);
     crate::cut(b, x, s, prior)
 }
 
@@ -95,6 +105,19 @@ pub fn narrow(b: &mut [i64], z: usize, x: usize, y: usize, prior: Status) -> Sta
     ensures { λ r. ⌜ Done (productSteps z x y) prior (now (b .entry)) r (now (b .exit)) ⌝ }
 {
     let first = cut_product(b, z, x, y, prior);
-    let second = cut_quotient(b, x, z, y, first);
-    cut_quotient(b, y, z, x, second)
+    if let Status::Empty = first {
+        return Status::Empty;
+    }
+    let second = if moves(b, x, z, y) {
+        divide(b, x, z, y)
+    } else {
+        cut_below(b, x, z, y, first)
+    };
+    if let Status::Empty = second {
+        return Status::Empty;
+    }
+    if moves(b, y, z, x) {
+        return divide(b, y, z, x);
+    }
+    cut_below(b, y, z, x, second)
 }

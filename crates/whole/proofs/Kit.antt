@@ -6,7 +6,7 @@ use Prim.Native.Nat.{ℕ, zero, suc, _+_, _-_, _*_, _/_, _%_, _≤_, _<_, _^_, m
 use native.Mathlib.Omega.{arith}
 use lib.Dec.{lit≤, T, ltb, leb, ltb→lt, nltb→le, lt→ltb, le→leb, leb→le, nleb→lt}
 use lib.IntN.{ℤ, pos, negsuc, negℤ, subℕ, natAbs, _+ℤ_, _-ℤ_, _*ℤ_}
-use lib.Signed.{mag, ltZ, leZ, _≤ℤ_, _<ℤ_, quotZ, remZ, shrZ, mag-shr, nonNeg, yes-nonNeg, pos-natAbs}
+use lib.Signed.{mag, ltZ, leZ, _≤ℤ_, _<ℤ_, quotZ, remZ, shrZ, mag-shr, mag-rem, nonNeg, yes-nonNeg, pos-natAbs}
 use mir.Syntax.{w64}
 use mir.Val.{Fits, SFits, toZ, ofZ}
 use mir.Facts.{toZ-ofZ, fits-natAbs}
@@ -266,6 +266,9 @@ quo h k f = made (ap₂ quotZ h k) f
 
 pub half : {x a : ℤ} → x ≡ a → SFits w64 a → Holds (shrZ x 2) (shrZ a 2)
 half {x} {a} h f = made (ap (λ (z : ℤ). shrZ z 2) h) (sfits-le (mag-shr a 2) f)
+
+pub remains : {x y a b : ℤ} → x ≡ a → y ≡ b → SFits w64 a → Holds (remZ x y) (remZ a b)
+remains {a = a} {b = b} h k f = made (ap₂ remZ h k) (sfits-le (mag-rem a b) f)
 
 -- ---- what halving and dividing do
 pub record Half (z : ℤ) : Type 0 where

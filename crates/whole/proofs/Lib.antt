@@ -4,6 +4,7 @@ pub mod Division
 pub mod Doubling
 pub mod Held
 pub mod Kit
+pub mod Lengths
 pub mod Meaning
 pub mod Newton
 pub mod Powers

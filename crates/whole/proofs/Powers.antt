@@ -1,10 +1,17 @@
--- Twice a power is the next power: half as many values need one exponent less.
+-- Twice a power is the next power: half as many values need one exponent less, and the exponent is the length of the number before.
 use mathlib.Core.Path.{_≡_}
-use Prim.Native.Nat.{ℕ, zero, suc, _+_, _*_, _^_, _≤_}
+use Prim.Native.Nat.{ℕ, zero, suc, _+_, _-_, _*_, _^_, _≤_}
 use native.Mathlib.Nat.{le-trans, pow-suc}
 use native.Mathlib.Omega.{arith}
-use Rattle.whole.specs.Numbers.{leastPower}
-use Rattle.whole.proofs.Meaning.{power-is}
+use lib.Count.{leadingZeros}
+use lib.IntN.{_-ℤ_}
+use Rattle.whole.specs.Numbers.{P, leastPower}
+use Rattle.whole.specs.Ranges.{values}
+use Rattle.whole.specs.inner.Held.{Good}
+use Rattle.whole.specs.declared.Range.{Range}
+use Rattle.whole.proofs.Lengths.{Length, length, shortest}
+use Rattle.whole.proofs.Meaning.{power-is, power-only}
+use Rattle.whole.proofs.Spans.{values-next, ends-apart}
 
 pub power-one : leastPower 1 ≡ 0
 power-one = let h = power-is 1 .least 0 (omega arith) in omega arith
@@ -19,3 +26,14 @@ power-half l m two h = go (leastPower m) (power-is m .enough)
     go : (k : ℕ) → m ≤ 2 ^ k → leastPower l + 1 ≤ k
     go zero b = absurd (omega arith)
     go (suc k) b = let c = power-is l .least k (omega (arith, pow-suc 2 k)) in omega arith
+
+-- 2^m is at least v where it is above the number before v
+power-length : (v w m : ℕ) → v ≡ w + 1 → Length w m → m ≡ leastPower v
+power-length v w m e f = power-only v m (record { enough = omega (arith, f .above); least = λ j h. shortest w m j f (omega arith) })
+
+-- the number before a range's values is how far its ends are apart
+pub halved : (r : Range) (w : ℕ) → Good r → w ≡ P (r .high -ℤ r .low) → (64 - leadingZeros 64 w ≡ leastPower (values r)) × (64 - leadingZeros 64 w ≤ 41)
+halved r w g e =
+    let b = ends-apart r g in
+    let f = length w (omega arith) in
+    (power-length (values r) w _ (omega (arith, values-next r (g .ordered))) f, shortest w _ 41 f (omega arith))

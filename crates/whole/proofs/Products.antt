@@ -1,5 +1,5 @@
 -- The root of M tells a product's size: a factor within it leaves the product within 64 bits, and two factors past it make a product past M, on the side of their signs.
-use mathlib.Core.Path.{_≡_, refl, sym, subst}
+use mathlib.Core.Path.{_≡_, refl, sym, ap, subst, _∙_}
 use mathlib.Core.Bool.{Bool, true, false, _&&_}
 use Prim.Native.Nat.{_≤_, _<_}
 use lib.Dec.{T}
@@ -9,7 +9,7 @@ use mir.Syntax.{w64}
 use mir.Val.{SFits}
 use Rattle.whole.specs.Numbers.{Near}
 use Rattle.whole.specs.inner.Held.{held}
-use Rattle.whole.proofs.Kit.{ints, times, cross, apart, natAbs-is, near-abs, abs-prod, fits-abs}
+use Rattle.whole.proofs.Kit.{ints, at, rd, Holds, prod, times, cross, apart, natAbs-is, near-abs, abs-prod, fits-abs}
 use Rattle.whole.proofs.Meaning.{held-is}
 
 abbrev pub Small : ℤ → Bool
@@ -34,6 +34,17 @@ first-small a b h k = fits-abs (a *ℤ b) 1_000_000_000_000_000_000 tt (abs-prod
 
 pub second-small : (a b : ℤ) → Near a → Small b ≡ true → SFits w64 (a *ℤ b)
 second-small a b h k = fits-abs (a *ℤ b) 1_000_000_000_000_000_000 tt (abs-prod a b (near-abs a h) (small-abs b k))
+
+-- the machine's product of two factors, the test of one of which was met
+module _ {a b : ℤ} {r : Bool} (f : SFits w64 a) (g : SFits w64 b) where
+  told : {z : ℤ} → SFits w64 z → r ≡ Small (at z) → r ≡ true → Small z ≡ true
+  told k e t = ap Small (sym (rd k)) ∙ sym e ∙ t
+
+  pub first-product : Near b → r ≡ Small (at a) → r ≡ true → Holds (at a *ℤ at b) (a *ℤ b)
+  first-product n e t = prod (rd f) (rd g) (first-small a b (told f e t) n)
+
+  pub second-product : Near a → r ≡ Small (at b) → r ≡ true → Holds (at a *ℤ at b) (a *ℤ b)
+  second-product n e t = prod (rd f) (rd g) (second-small a b n (told g e t))
 
 module _ (a b : ℤ) (h : 1_000_000 < natAbs a) (k : 1_000_000 < natAbs b) where
   pub both-below : a <ℤ pos 0 → b <ℤ pos 0 → pos 1_000_000_000_001 ≡ held (a *ℤ b)

@@ -1,13 +1,13 @@
 -- Quotients against products: a product keeps the order in each factor that is above 0, and turns it for one below 0.
-use mathlib.Core.Path.{_≡_, refl, sym, ap, subst}
+use mathlib.Core.Path.{_≡_, refl, sym, ap, ap₂, subst, _∙_}
 use Prim.Native.Nat.{zero, suc, _≤_}
 use native.Mathlib.Nat.{div-le-self, zero-div}
 use native.Mathlib.Omega.{arith}
-use lib.IntN.{ℤ, pos, negsuc, negℤ, natAbs, _*ℤ_}
+use lib.IntN.{ℤ, pos, negsuc, negℤ, natAbs, _-ℤ_, _*ℤ_}
 use lib.Signed.{_≤ℤ_, _<ℤ_}
 use Rattle.whole.specs.Numbers.{Near, floorQ, ceilQ}
 use Rattle.whole.specs.inner.Held.{Is}
-use Rattle.whole.proofs.Kit.{ints, *ℤ-mono, natAbs-is, neg-P, neg-N, near-abs, abs-near}
+use Rattle.whole.proofs.Kit.{ints, nears, at, rn, Holds, made, minus, *ℤ-mono, natAbs-is, neg-P, neg-N, near-abs, abs-near}
 use Rattle.whole.proofs.Division.{Under, Over, past-up, short-up, floor-under, ceiling-over}
 use Rattle.whole.proofs.Meaning.{floor-of, floor-only, ceiling-of, ceiling-only}
 
@@ -80,3 +80,23 @@ floor-found a b q h n u = let e = floor-only a b q n (floor-of a b q n u) in rec
 
 pub ceiling-found : (a b q : ℤ) → Near a → (b ≡ pos 0 → ⊥) → Over a b q → Is (ceilQ a b) q
 ceiling-found a b q h n u = let e = ceiling-only a b q n (ceiling-of a b q n u) in record { is = e; near = subst Near (sym e) (ceiling-near a b h) }
+
+-- a near number turned by the machine
+pub turn : (z : ℤ) → Near z → Holds (pos 0 -ℤ at z) (negℤ z)
+turn z h = made (ap (λ (x : ℤ). pos 0 -ℤ x) (rn z h) ∙ e) (let l = h in omega (nears, neg-P z, neg-N z))
+  where
+    e : pos 0 -ℤ z ≡ negℤ z
+    e = omega (ints, minus (pos 0) z, neg-P z, neg-N z)
+
+-- a result that is read back
+pub read : {z w r : ℤ} → Is w r → w ≡ z → Is z (at r)
+read {z} {w} {r} i e = let k = rn r (i .near) in record { is = k ∙ i .is ∙ e; near = subst Near (sym k) (i .near) }
+
+-- what a call with both signs turned asks, for a divisor below 0
+pub turned-asks : (a b : ℤ) → Near a → Near b → b <ℤ pos 0 → Near (at (pos 0 -ℤ at a)) × (Near (at (pos 0 -ℤ at b)) × (pos 0 <ℤ at (pos 0 -ℤ at b)))
+turned-asks a b h k l =
+    let i = turn a h .is in
+    let j = turn b k .is in
+    let h′ = h in
+    let k′ = k in
+    (omega (nears, neg-P a, neg-N a), (omega (nears, neg-P b, neg-N b), omega (nears, neg-P b, neg-N b)))

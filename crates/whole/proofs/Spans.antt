@@ -2,12 +2,13 @@
 use mathlib.Core.Path.{_≡_, refl, sym, ap, ap₂, subst}
 use mathlib.Core.Logic.{_⊎_, inl, inr, ⊎-elim}
 use mathlib.Core.Bool.{Bool, true, false, cond, _&&_}
-use Prim.Native.Nat.{_+_}
+use Prim.Native.Nat.{_+_, _≤_}
 use lib.Dec.{T}
 use lib.IntN.{ℤ, pos, _+ℤ_, _-ℤ_, _*ℤ_}
 use lib.Signed.{leZ, _≤ℤ_, _<ℤ_}
 use Rattle.whole.specs.Numbers.{P, N, minZ, maxZ, min4, max4}
 use Rattle.whole.specs.Ranges.{range, In, values, holdsZero, sumSpan, differenceSpan, productSpan, squareSpan}
+use Rattle.whole.specs.inner.Held.{Good}
 use Rattle.whole.specs.declared.Range.{Range}
 use Rattle.whole.proofs.Kit.{ints, apart, plus, minus, times, cross, sign, square-N, min-parts, max-parts, prod-low, prod-high}
 
@@ -167,3 +168,10 @@ square-one u = ends-is (go (holdsZero (range u u)) refl) (omega (ints, max-parts
 pub values-is : (r : Range) → r .low ≤ℤ r .high → values r + (P (r .low) + N (r .high)) ≡ P (r .high) + N (r .low) + 1
 values-is r h =
     omega (ints, minus (r .high) (r .low), plus (r .high -ℤ r .low) (pos 1), apart (r .high -ℤ r .low +ℤ pos 1))
+
+-- one more than the ends are apart, which is at most 2M
+pub values-next : (r : Range) → r .low ≤ℤ r .high → values r ≡ P (r .high -ℤ r .low) + 1
+values-next r h = omega (ints, values-is r h, minus (r .high) (r .low), apart (r .high -ℤ r .low))
+
+pub ends-apart : (r : Range) → Good r → P (r .high -ℤ r .low) ≤ 2_000_000_000_000
+ends-apart r g = omega (ints, minus (r .high) (r .low), apart (r .high -ℤ r .low))

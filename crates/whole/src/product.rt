@@ -2,7 +2,7 @@
 ghost use mathlib.Core.Bool.{false, _&&_};
 ghost use mathlib.Core.Path.{_≡_};
 ghost use lib.IntN.{ℤ, pos, negsuc, _*ℤ_};
-ghost use lib.Signed.{leZ};
+ghost use lib.Signed.{leZ, ltZ};
 ghost use Rattle.whole.specs.Numbers.{Near};
 ghost use Rattle.whole.specs.inner.Held.{held};
 
@@ -53,4 +53,32 @@ pub fn times(a: i64, b: i64) -> i64
         return hold(a * b);
     }
     beyond(a, b)
+}
+
+// Whether the exact product is below a near number.
+pub fn below(a: i64, b: i64, z: i64) -> bool
+    requires { ⌜ Near a ⌝ ∗ ⌜ Near b ⌝ ∗ ⌜ Near z ⌝ }
+    ensures { λ r. ⌜ r ≡ ltZ (a *ℤ b) z ⌝ }
+{
+    if small(a) {
+        return a * b < z;
+    }
+    if small(b) {
+        return a * b < z;
+    }
+    beyond(a, b) < z
+}
+
+// Whether the exact product is above a near number.
+pub fn above(a: i64, b: i64, z: i64) -> bool
+    requires { ⌜ Near a ⌝ ∗ ⌜ Near b ⌝ ∗ ⌜ Near z ⌝ }
+    ensures { λ r. ⌜ r ≡ ltZ z (a *ℤ b) ⌝ }
+{
+    if small(a) {
+        return z < a * b;
+    }
+    if small(b) {
+        return z < a * b;
+    }
+    z < beyond(a, b)
 }

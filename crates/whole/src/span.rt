@@ -1,5 +1,7 @@
 // The ranges that two ranges give, their products held.
 ghost use mathlib.Core.Path.{_≡_};
+ghost use lib.IntN.{pos};
+ghost use lib.Signed.{_≤ℤ_};
 ghost use Rattle.whole.specs.Numbers.{min4, max4};
 ghost use Rattle.whole.specs.Ranges.{holdsZero, sumSpan, differenceSpan, productSpan, squareSpan};
 ghost use Rattle.whole.specs.inner.Held.{heldSpan, Good};
@@ -48,8 +50,8 @@ fn greatest(a: i64, b: i64, c: i64, d: i64) -> i64
     crate::larger(crate::larger(a, b), crate::larger(c, d))
 }
 
-// The range of a product of two ranges of any sign: all four end products.
-fn product_any(x: Range, y: Range) -> Range
+// The range of a product: all four end products.
+pub fn product(x: Range, y: Range) -> Range
     requires { ⌜ Good x ⌝ ∗ ⌜ Good y ⌝ }
     ensures { λ r. ⌜ r ≡ heldSpan (productSpan x y) ⌝ }
 {
@@ -63,17 +65,12 @@ fn product_any(x: Range, y: Range) -> Range
     }
 }
 
-// The range of a product. Where neither range goes below 0, the low ends make the least and the high ends the greatest.
-pub fn product(x: Range, y: Range) -> Range
+// The range of a product where neither range goes below 0: the low ends make the least and the high ends the greatest.
+pub fn product_above(x: Range, y: Range) -> Range
     requires { ⌜ Good x ⌝ ∗ ⌜ Good y ⌝ }
+    requires { ⌜ pos 0 ≤ℤ x .low ⌝ ∗ ⌜ pos 0 ≤ℤ y .low ⌝ }
     ensures { λ r. ⌜ r ≡ heldSpan (productSpan x y) ⌝ }
 {
-    if x.low < 0 {
-        return product_any(x, y);
-    }
-    if y.low < 0 {
-        return product_any(x, y);
-    }
     Range {
         low: crate::product::times(x.low, y.low),
         high: crate::product::times(x.high, y.high),

@@ -4,13 +4,14 @@ use mathlib.Core.List.{List}
 use Prim.Native.Nat.{ℕ, _+_, _*_, _<_}
 use lib.ListN.{length}
 use lib.IntN.{ℤ}
+use lib.Signed.{_≤ℤ_, _<ℤ_}
 use Rattle.whole.specs.inner.Held.{Good}
 use Rattle.whole.specs.declared.Range.{Range}
 use Rattle.problem.specs.Problem.{Box, rangeAt}
 use Rattle.problem.specs.declared.Primitive.{Primitive}
 use Rattle.problem.specs.declared.Primitive.the-variants.{Sum, Product, Square}
 use Rattle.problem.specs.declared.Literal.{Literal}
-use Rattle.narrow.specs.Cuts.{Result, gone, moved, still, Step, steps}
+use Rattle.narrow.specs.Cuts.{putAt, Result, gone, moved, still, Step, steps}
 use Rattle.narrow.specs.Sweep.{Swept, empty, changed, unchanged, sweepOf}
 use Rattle.narrow.specs.declared.Status.{Status}
 use Rattle.narrow.specs.declared.Status.the-variants.{Empty, Changed, Same}
@@ -33,6 +34,11 @@ pub record Fine (b : Box) : Type 0 where
 pub record Seen (b : Box) (q : ℕ) (r : Range) : Type 0 where
   pub is : r ≡ rangeAt b q
   pub good : Good r
+
+-- a range that was replaced: an empty one leaves the box, any other is written
+pub record Replaced (q : ℕ) (r : Range) (b₀ : Box) (s : Status) (b : Box) : Type 0 where
+  pub none : r .high <ℤ r .low → (s ≡ Empty) × (b ≡ b₀)
+  pub some : r .low ≤ℤ r .high → (s ≡ Changed) × (b ≡ putAt b₀ q r)
 
 -- a status, with the box it leaves, as a result
 abbrev pub resultAs : Status → Box → Result

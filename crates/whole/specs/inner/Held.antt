@@ -1,6 +1,6 @@
 -- For the code: products held, what is asked of a range that is computed with, and results that stay near.
 use mathlib.Core.Path.{_≡_}
-use Prim.Native.Nat.{ℕ, _+_, _*_, _≤_, _<_}
+use Prim.Native.Nat.{ℕ, _+_, _*_, _^_, _≤_, _<_}
 use lib.IntN.{ℤ, pos, negsuc}
 use lib.Signed.{_≤ℤ_}
 use Rattle.whole.specs.Numbers.{Near, minZ, maxZ}
@@ -31,8 +31,18 @@ pub record Root (n r : ℕ) : Type 0 where
   pub most : n < (r + 1) * (r + 1)
   pub small : r ≤ 1_000_000
 
--- r is above the root of n, and small enough to compute with
-pub record Above (n r : ℕ) : Type 0 where
-  pub above : n < (r + 1) * (r + 1)
+-- 2^j is near the root of n: n is below twice its square
+pub record Nearest (n j : ℕ) : Type 0 where
+  pub below : n < 2 * (2 ^ j * 2 ^ j)
+  pub small : j ≤ 20
+
+-- g is above the root of n, and at most twice 2^j
+pub record Above (n j g : ℕ) : Type 0 where
+  pub above : n < g * g
+  pub small : g ≤ 2 * 2 ^ j
+
+-- one of Newton's steps for the root of n can start from r: neither r nor n / r is large
+pub record Start (n r : ℕ) : Type 0 where
   pub some : 0 < r
   pub small : r ≤ 2_097_152
+  pub large : n ≤ r * 2_097_152

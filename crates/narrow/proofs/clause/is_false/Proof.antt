@@ -1,37 +1,18 @@
--- `narrow::clause::is_false` meets its contract: it compares the bound with the end of the range that was read.
-use Rattle.whole.specs.declared.Range.{Range}
-use mathlib.Core.Path.{ap, _∙_}
-use Rattle.narrow.proofs.Reading.{most-has, least-has, most-false, least-false}
-use Rattle.whole.proofs.Kit.{got, rn}
+-- `narrow::clause::is_false` meets its contract: a literal is false if the range that it asks is empty.
+use Rattle.narrow.proofs.Reading.{asked-false}
+use Rattle.whole.proofs.Kit.{got}
 use borrow.Author.Needs.{needs}
 use Rattle.narrow.proofs.clause.is_false.Statement.{statement}
 use Rattle.narrow.proofs.clause.is_false.Tie as tie
 
-enum-known-l : tie.Need-enum-known-l
-enum-known-l c = search needs
-
-range-at-requires : tie.Need-range-at-requires
-range-at-requires c κs = let s = c .before .before .before in (s .pre .0, most-has (s .args .b .now) (c .before .l .given .1) (s .pre .1))
-
-enum-known-l-2 : tie.Need-enum-known-l-2
-enum-known-l-2 c = search needs
-
-range-at-requires-2 : tie.Need-range-at-requires-2
-range-at-requires-2 c κs = let s = c .before .before .before in (s .pre .0, least-has (s .args .b .now) (c .before .l2 .given .1) (s .pre .1))
+asked-requires : tie.Need-asked-requires
+asked-requires c κs = search needs
 
 returns : tie.Need-returns
 returns c =
-    let s = c .before .before .before .before .before .before in
-    let x = c .before .before .range-at in
-    most-false (s .args .b .now) (got (c .before .before .before .before .l .given .0 .1 .0) (c .before .before .before .known-told .given .1 .0 .1)) (c .before .before .before .before .l .given .1) (rn (x .result .low) (x .ensures .good .low) ∙ ap (λ (r : Range). r .low) (x .ensures .is))
-
-returns-2 : tie.Need-returns-2
-returns-2 c =
-    let s = c .before .before .before .before .before .before in
-    let x = c .before .before .range-at2 in
-    least-false (s .args .b .now) (got (c .before .before .before .before .l2 .given .0 .1 .0) (c .before .before .before .known-told2 .given .1 .0 .1)) (c .before .before .before .before .l2 .given .1) (rn (x .result .high) (x .ensures .good .high) ∙ ap (λ (r : Range). r .high) (x .ensures .is))
+    let a = c .before .before .before .args in
+    let s = c .before .before .asked in
+    asked-false (a .b .now) (a .l) (s .ensures) (got (s .result .low) (c .struct-told .given .0 .1)) (got (s .result .high) (c .struct-told .given .1 .0 .1))
 
 pub is-false-spec : {M : Type 1} → statement M
-is-false-spec =
-    tie.close
-    (tie.spec enum-known-l range-at-requires enum-known-l-2 range-at-requires-2 returns returns-2)
+is-false-spec = tie.close (tie.spec asked-requires returns)

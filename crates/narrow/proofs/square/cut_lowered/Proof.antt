@@ -1,10 +1,8 @@
--- `narrow::square::cut_lowered` meets its contract: where the square of the high end reaches z already, the cut leaves x.
-use lib.IntN.{negℤ, _*ℤ_}
-use Rattle.narrow.proofs.Divided.{turn}
+-- `narrow::square::cut_lowered` meets its contract: the square of the high end says whether it moves.
+use mathlib.Core.Path.{ap, _∙_}
+use lib.IntN.{negℤ}
+use Rattle.whole.proofs.Quotients.{turn}
 use Rattle.whole.specs.Numbers.{rootUp}
-use lib.Signed.{leZ}
-use mathlib.Core.Bool.{true}
-use mathlib.Core.Path.{_≡_, ap, _∙_}
 use Rattle.whole.proofs.Spans.{ends-is}
 use Rattle.narrow.proofs.Rooted.{square-least, lower-none, lower-quiet, lower-done}
 use Rattle.whole.proofs.Kit.{ints, rn}
@@ -37,14 +35,16 @@ same-length-2 c = search needs
 
 returns-2 : tie.Need-returns-2
 returns-2 c =
-    let s = c .before .before .before .before .before .before .before .before .before .before .before .before in
+    let k = c .before .before .before .before .before .before .before .before .before .before in
+    let s = k .before .before in
     let a = s .args in
-    let x = c .before .before .before .before .before .before .before .before .before .before .range-at in
+    let x = k .range-at in
     let z = c .before .before .before .before .before .range-at2 in
+    let t = c .before .times in
     let r = rn (x .result .high) (x .ensures .good .high) in
-    let t = c .before .before .before .before .before .before .before .if1 .left in
-    let k : leZ (z .result .low) (x .result .high *ℤ x .result .high) ≡ true = square-least (x .result .high) (z .result .low) (c .before .times .result) (x .ensures .good .high) (z .ensures .good .low) (c .before .times .ok) (c .before .times .ensures) (c .if2 .taken) in
-    lower-quiet (a .x) (a .z) (a .prior) (a .b .now) (s .pre .0) (s .pre .1 .0) (x .ensures) (z .ensures) (omega ints) (omega ints)
+    let i = c .before .before .before .before .before .before .before .if1 .left in
+    lower-quiet (a .x) (a .z) (a .prior) (a .b .now) (s .pre .0) (s .pre .1 .0) (x .ensures) (z .ensures) (omega ints)
+    (square-least (x .result .high) (z .result .low) (t .result) (x .ensures .good .high) (z .ensures .good .low) (t .ok) (t .ensures) (c .if2 .taken))
 
 up-requires : tie.Need-up-requires
 up-requires c κs = search needs
@@ -52,22 +52,25 @@ up-requires c κs = search needs
 sub-t16 : tie.Need-sub-t16
 sub-t16 c = turn (c .up .result) (c .up .ensures .near) .fits
 
-cut-requires : tie.Need-cut-requires
-cut-requires c κs = search needs
+replace-requires : tie.Need-replace-requires
+replace-requires c κs = search needs
 
 same-length-3 : tie.Need-same-length-3
 same-length-3 c = search needs
 
 returns-3 : tie.Need-returns-3
 returns-3 c =
-    let s = c .before .before .before .before .before .before .before .before .before .before .before .before .before .before .before .before .before in
+    let k = c .before .before .before .before .before .before .before .before .before .before .before .before .before .before .before in
+    let s = k .before .before in
     let a = s .args in
-    let x = c .before .before .before .before .before .before .before .before .before .before .before .before .before .before .before .range-at in
+    let x = k .range-at in
     let z = c .before .before .before .before .before .before .before .before .before .before .range-at2 in
+    let t = c .before .before .before .before .before .before .times in
     let up = c .before .before .before .up in
     let r = rn (x .result .high) (x .ensures .good .high) in
-    let t = c .before .before .before .before .before .before .before .before .before .before .before .before .if1 .left in
-    lower-done (a .x) (a .z) (a .prior) (a .b .now) (s .pre .0) (s .pre .1 .0) (x .ensures) (z .ensures) (c .before .cut .ensures) (omega ints)
+    let i = c .before .before .before .before .before .before .before .before .before .before .before .before .if1 .left in
+    lower-done (a .x) (a .z) (a .prior) (a .b .now) (s .pre .0) (s .pre .1 .0) (x .ensures) (z .ensures) (c .before .replace .ensures) (s .pre .1 .1 .1) (omega ints)
+    (square-least (x .result .high) (z .result .low) (t .result) (x .ensures .good .high) (z .ensures .good .low) (t .ok) (t .ensures) (c .before .before .before .before .before .if2 .left))
     (ends-is (rn (x .result .low) (x .ensures .good .low)) (turn (up .result) (up .ensures .near) .is ∙ ap negℤ (up .ensures .is ∙ ap rootUp (rn (z .result .low) (z .ensures .good .low)))))
 
 pub cut-lowered-spec : {M : Type 1} → statement M
@@ -83,6 +86,6 @@ cut-lowered-spec =
     returns-2
     up-requires
     sub-t16
-    cut-requires
+    replace-requires
     same-length-3
     returns-3)

@@ -1,12 +1,9 @@
--- `narrow::square::cut_raised` meets its contract: where the square of the low end reaches z already, the cut leaves x.
+-- `narrow::square::cut_raised` meets its contract: the square of the low end says whether it moves.
+use mathlib.Core.Path.{ap, _∙_}
 use Rattle.whole.specs.Numbers.{rootUp}
-use lib.IntN.{_*ℤ_}
-use lib.Signed.{leZ}
-use mathlib.Core.Bool.{true}
-use mathlib.Core.Path.{_≡_, ap, _∙_}
 use Rattle.whole.proofs.Spans.{ends-is}
 use Rattle.narrow.proofs.Rooted.{square-least, raise-none, raise-quiet, raise-done}
-use Rattle.whole.proofs.Kit.{ints, rn, got}
+use Rattle.whole.proofs.Kit.{ints, rn}
 use borrow.Author.Needs.{needs}
 use Rattle.narrow.proofs.square.cut_raised.Statement.{statement}
 use Rattle.narrow.proofs.square.cut_raised.Tie as tie
@@ -36,35 +33,40 @@ same-length-2 c = search needs
 
 returns-2 : tie.Need-returns-2
 returns-2 c =
-    let s = c .before .before .before .before .before .before .before .before .before .before .before .before in
+    let k = c .before .before .before .before .before .before .before .before .before .before in
+    let s = k .before .before in
     let a = s .args in
-    let x = c .before .before .before .before .before .before .before .before .before .before .range-at in
+    let x = k .range-at in
     let z = c .before .before .before .before .before .range-at2 in
+    let t = c .before .times in
     let r = rn (x .result .low) (x .ensures .good .low) in
-    let t = c .before .before .before .before .before .before .before .if1 .left in
-    let k : leZ (z .result .low) (x .result .low *ℤ x .result .low) ≡ true = square-least (x .result .low) (z .result .low) (c .before .times .result) (x .ensures .good .low) (z .ensures .good .low) (c .before .times .ok) (c .before .times .ensures) (c .if2 .taken) in
-    raise-quiet (a .x) (a .z) (a .prior) (a .b .now) (s .pre .0) (s .pre .1 .0) (x .ensures) (z .ensures) (omega ints) (omega ints)
+    let i = c .before .before .before .before .before .before .before .if1 .left in
+    raise-quiet (a .x) (a .z) (a .prior) (a .b .now) (s .pre .0) (s .pre .1 .0) (x .ensures) (z .ensures) (omega ints)
+    (square-least (x .result .low) (z .result .low) (t .result) (x .ensures .good .low) (z .ensures .good .low) (t .ok) (t .ensures) (c .if2 .taken))
 
 up-requires : tie.Need-up-requires
 up-requires c κs = search needs
 
-cut-requires : tie.Need-cut-requires
-cut-requires c κs = search needs
+replace-requires : tie.Need-replace-requires
+replace-requires c κs = search needs
 
 same-length-3 : tie.Need-same-length-3
 same-length-3 c = search needs
 
 returns-3 : tie.Need-returns-3
 returns-3 c =
-    let s = c .before .before .before .before .before .before .before .before .before .before .before .before .before .before .before .before .before in
+    let k = c .before .before .before .before .before .before .before .before .before .before .before .before .before .before .before in
+    let s = k .before .before in
     let a = s .args in
-    let x = c .before .before .before .before .before .before .before .before .before .before .before .before .before .before .before .range-at in
+    let x = k .range-at in
     let z = c .before .before .before .before .before .before .before .before .before .before .range-at2 in
+    let t = c .before .before .before .before .before .before .times in
     let up = c .before .before .before .up in
     let r = rn (x .result .low) (x .ensures .good .low) in
-    let t = c .before .before .before .before .before .before .before .before .before .before .before .before .if1 .left in
-    raise-done (a .x) (a .z) (a .prior) (a .b .now) (s .pre .0) (s .pre .1 .0) (x .ensures) (z .ensures) (c .before .cut .ensures) (omega ints)
-    (ends-is (got (up .result) (up .ok) ∙ up .ensures .is ∙ ap rootUp (rn (z .result .low) (z .ensures .good .low))) (rn (x .result .high) (x .ensures .good .high)))
+    let i = c .before .before .before .before .before .before .before .before .before .before .before .before .if1 .left in
+    raise-done (a .x) (a .z) (a .prior) (a .b .now) (s .pre .0) (s .pre .1 .0) (x .ensures) (z .ensures) (c .before .replace .ensures) (s .pre .1 .1 .1) (omega ints)
+    (square-least (x .result .low) (z .result .low) (t .result) (x .ensures .good .low) (z .ensures .good .low) (t .ok) (t .ensures) (c .before .before .before .before .before .if2 .left))
+    (ends-is (rn (up .result) (up .ensures .near) ∙ up .ensures .is ∙ ap rootUp (rn (z .result .low) (z .ensures .good .low))) (rn (x .result .high) (x .ensures .good .high)))
 
 pub cut-raised-spec : {M : Type 1} → statement M
 cut-raised-spec =
@@ -78,6 +80,6 @@ cut-raised-spec =
     same-length-2
     returns-2
     up-requires
-    cut-requires
+    replace-requires
     same-length-3
     returns-3)

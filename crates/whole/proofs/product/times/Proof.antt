@@ -1,29 +1,18 @@
 -- A small factor leaves the plain product within 64 bits, and of two that are not small only the signs count.
-use mathlib.Core.Path.{_≡_, sym, ap, _∙_}
-use mathlib.Core.Bool.{Bool}
+use mathlib.Core.Path.{sym, ap, _∙_}
 use lib.IntN.{ℤ, _*ℤ_}
-use mir.Syntax.{w64}
-use mir.Val.{SFits}
 use borrow.Author.Needs.{needs}
 use Rattle.whole.specs.inner.Held.{held}
-use Rattle.whole.proofs.Kit.{at, rd, got, call2, Holds, prod}
-use Rattle.whole.proofs.Products.{Small, first-small, second-small}
+use Rattle.whole.proofs.Kit.{at, rd, got, call2, Holds}
+use Rattle.whole.proofs.Products.{first-product, second-product}
 use Rattle.whole.proofs.product.times.Statement.{statement}
 use Rattle.whole.proofs.product.times.Tie as tie
 
--- a test of the number that is read, and of the number
-told : {a : ℤ} {r t : Bool} → SFits w64 a → r ≡ Small (at a) → r ≡ t → Small a ≡ t
-told f e g = ap Small (sym (rd f)) ∙ sym e ∙ g
-
 first : (c : tie.Then1) → Holds (at (c .before .before .args .a) *ℤ at (c .before .before .args .b)) (c .before .before .args .a *ℤ c .before .before .args .b)
-first c =
-    let s = c .before .before in
-    prod (rd (s .fits .a)) (rd (s .fits .b)) (first-small (s .args .a) (s .args .b) (told (s .fits .a) (c .before .small .ensures) (c .if1 .taken)) (s .pre .1))
+first c = let s = c .before .before in first-product (s .fits .a) (s .fits .b) (s .pre .1) (c .before .small .ensures) (c .if1 .taken)
 
 second : (c : tie.Then2) → Holds (at (c .before .before .before .before .args .a) *ℤ at (c .before .before .before .before .args .b)) (c .before .before .before .before .args .a *ℤ c .before .before .before .before .args .b)
-second c =
-    let s = c .before .before .before .before in
-    prod (rd (s .fits .a)) (rd (s .fits .b)) (second-small (s .args .a) (s .args .b) (s .pre .0) (told (s .fits .b) (c .before .small2 .ensures) (c .if2 .taken)))
+second c = let s = c .before .before .before .before in second-product (s .fits .a) (s .fits .b) (s .pre .0) (c .before .small2 .ensures) (c .if2 .taken)
 
 small-requires : tie.Need-small-requires
 small-requires c κs = search needs

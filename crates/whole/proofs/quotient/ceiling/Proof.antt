@@ -1,83 +1,37 @@
--- The machine's quotient times the divisor is not past the dividend, and the test says whether it is short of the quotient rounded up.
-use mathlib.Core.Path.{sym, subst}
-use Prim.Native.Nat.{_+_, _<_}
-use lib.IntN.{pos, _+ℤ_, _*ℤ_}
-use lib.Signed.{quotZ}
-use Rattle.whole.specs.Numbers.{P, N, ceilQ}
-use Rattle.whole.specs.inner.Held.{Is}
-use Rattle.whole.proofs.Kit.{ints, apart, at, plus, minus, Quot, quots, nonzero, bits-nonzero, suc-times, Holds, rd, lit, sum, prod, quo}
-use Rattle.whole.proofs.Division.{Over}
-use Rattle.whole.proofs.Quotients.{ceiling-found}
+-- A divisor other than 0 is above 0 or, with both signs turned, becomes so.
+use mathlib.Core.Path.{ap₂, _∙_}
+use mathlib.Core.Logic.{⊎-elim}
+use lib.IntN.{pos}
+use lib.Signed.{_<ℤ_}
+use borrow.Author.Needs.{needs}
+use Rattle.whole.specs.Numbers.{ceilQ}
+use Rattle.whole.proofs.Kit.{ints, rd, side}
+use Rattle.whole.proofs.Quotients.{ceiling-turned, turn, read, turned-asks}
 use Rattle.whole.proofs.quotient.ceiling.Statement.{statement}
 use Rattle.whole.proofs.quotient.ceiling.Tie as tie
 
-b> : (c : tie.Start) → 0 < P (c .args .b) + N (c .args .b)
-b> c = nonzero (c .args .b) (c .pre .1 .1)
+below : (c : tie.Else1) → c .before .args .b <ℤ pos 0
+below c = let s = c .before in ⊎-elim (λ k. absurd (omega ints)) (λ k. k) (side (s .args .b) (s .pre .1 .1))
 
-qs : (c : tie.Start) → Quot (c .args .a) (c .args .b)
-qs c = quots (c .args .a) (c .args .b) (b> c)
-
-q : (c : tie.Start) → Holds (quotZ (at (c .args .a)) (at (c .args .b))) (quotZ (c .args .a) (c .args .b))
-q c = quo (rd (c .fits .a)) (rd (c .fits .b)) (omega (ints, apart (c .args .a), qs c))
-
-m : (c : tie.Start) → Holds (at (quotZ (at (c .args .a)) (at (c .args .b))) *ℤ at (c .args .b)) (quotZ (c .args .a) (c .args .b) *ℤ c .args .b)
-m c = prod (q c .is) (rd (c .fits .b)) (omega (ints, apart (c .args .a), qs c))
-
-d : (c : tie.Start) → Holds (at (quotZ (at (c .args .a)) (at (c .args .b))) +ℤ pos 1) (quotZ (c .args .a) (c .args .b) +ℤ pos 1)
-d c = sum (q c .is) (lit (pos 1)) (omega (ints, apart (c .args .a), qs c, plus (quotZ (c .args .a) (c .args .b)) (pos 1)))
-
--- what is returned: the quotient and one, and the quotient
-more : (c : tie.Start) → Over (c .args .a) (c .args .b) (quotZ (c .args .a) (c .args .b) +ℤ pos 1) → Is (ceilQ (c .args .a) (c .args .b)) (at (at (quotZ (at (c .args .a)) (at (c .args .b))) +ℤ pos 1))
-more c u = subst (Is (ceilQ (c .args .a) (c .args .b))) (sym (d c .is)) (ceiling-found (c .args .a) (c .args .b) (quotZ (c .args .a) (c .args .b) +ℤ pos 1) (c .pre .0) (c .pre .1 .1) u)
-
-same : (c : tie.Start) → Over (c .args .a) (c .args .b) (quotZ (c .args .a) (c .args .b)) → Is (ceilQ (c .args .a) (c .args .b)) (at (quotZ (at (c .args .a)) (at (c .args .b))))
-same c u = subst (Is (ceilQ (c .args .a) (c .args .b))) (sym (q c .is)) (ceiling-found (c .args .a) (c .args .b) (quotZ (c .args .a) (c .args .b)) (c .pre .0) (c .pre .1 .1) u)
-
-div-q : tie.Need-div-q
-div-q c = (bits-nonzero (c .args .b) (c .fits .b) (b> c), q c .fits)
-
-mul-m : tie.Need-mul-m
-mul-m c = m c .fits
-
-add-result : tie.Need-add-result
-add-result c = d (c .before .before) .fits
-
-add-result-2 : tie.Need-add-result-2
-add-result-2 c = d (c .before .before) .fits
+up-requires : tie.Need-up-requires
+up-requires c κs = search needs
 
 returns : tie.Need-returns
-returns c =
-    let s = c .before .before in
-    let b = s .args .b in
-    let t = quotZ (s .args .a) b in
-    let e = suc-times t b in
-    let k = m s in
-    more s (omega (ints, apart b, qs s, plus (t *ℤ b) b, minus ((t +ℤ pos 1) *ℤ b) b))
+returns c = let s = c .before .before in read (c .up .ensures) (ap₂ ceilQ (rd (s .fits .a)) (rd (s .fits .b)))
+
+sub-up : tie.Need-sub-up
+sub-up c = turn (c .before .args .a) (c .before .pre .0) .fits
+
+sub-up-2 : tie.Need-sub-up-2
+sub-up-2 c = turn (c .before .args .b) (c .before .pre .1 .0) .fits
+
+up-requires-2 : tie.Need-up-requires-2
+up-requires-2 c κs = let s = c .before in turned-asks (s .args .a) (s .args .b) (s .pre .0) (s .pre .1 .0) (below c)
 
 returns-2 : tie.Need-returns-2
 returns-2 c =
     let s = c .before .before in
-    let b = s .args .b in
-    let t = quotZ (s .args .a) b in
-    let k = m s in
-    same s (omega (ints, apart b, qs s, minus (t *ℤ b) b))
-
-returns-3 : tie.Need-returns-3
-returns-3 c =
-    let s = c .before .before in
-    let b = s .args .b in
-    let t = quotZ (s .args .a) b in
-    let e = suc-times t b in
-    let k = m s in
-    more s (omega (ints, apart b, qs s, plus (t *ℤ b) b, minus ((t +ℤ pos 1) *ℤ b) b))
-
-returns-4 : tie.Need-returns-4
-returns-4 c =
-    let s = c .before .before in
-    let b = s .args .b in
-    let t = quotZ (s .args .a) b in
-    let k = m s in
-    same s (omega (ints, apart b, qs s, minus (t *ℤ b) b))
+    read (c .up2 .ensures) (ap₂ ceilQ (turn (s .args .a) (s .pre .0) .is) (turn (s .args .b) (s .pre .1 .0) .is) ∙ ceiling-turned (s .args .a) (s .args .b) (s .pre .1 .1))
 
 pub ceiling-spec : {M : Type 1} → statement M
-ceiling-spec = tie.close (tie.spec div-q mul-m add-result add-result-2 returns returns-2 returns-3 returns-4)
+ceiling-spec = tie.close (tie.spec up-requires returns sub-up sub-up-2 up-requires-2 returns-2)

@@ -1,13 +1,11 @@
--- The guess stays above the root, each step but the last lowers it, and the last starts at the root.
+-- Every step ends at the root rounded down or above it, and each one from above falls; where the square is not above n, it is the root.
 use native.Mathlib.Omega.{arith}
-use native.Mathlib.Nat.{div-le-self}
-use Rattle.whole.specs.inner.Held.{Above}
-use Rattle.whole.proofs.Newton.{step, last}
+use Rattle.whole.proofs.Newton.{Reaches, square-fits, step-reaches, again, falls, last}
 use Rattle.whole.proofs.root.root.Statement.{statement}
 use Rattle.whole.proofs.root.root.Tie as tie
 
 abbrev Inv-loop : tie.InvT-loop
-Inv-loop n r₀ r = Above n r
+Inv-loop n r₀ r = Reaches n r
 
 abbrev μ-loop : tie.MeasureT-loop
 μ-loop n r₀ r = r
@@ -18,23 +16,31 @@ returns c = omega arith
 guess-requires : tie.Need-guess-requires Inv-loop μ-loop
 guess-requires c κs = omega arith
 
+step-requires : tie.Need-step-requires Inv-loop μ-loop
+step-requires c κs = c .guess .ensures
+
 loop-holds : tie.Need-loop-holds Inv-loop μ-loop
-loop-holds c = c .guess .ensures
+loop-holds c = step-reaches (c .before .before .before .args .n) (c .before .guess .result) (c .step .result) (c .step .ensures) (omega arith) (c .before .guess .ensures)
 
-div-next : tie.Need-div-next Inv-loop μ-loop
-div-next c = c .loop .inv .some
+mul-loop : tie.Need-mul-loop Inv-loop μ-loop
+mul-loop c = omega (arith, square-fits (c .loop .r) (c .loop .inv .small))
 
-add-next : tie.Need-add-next Inv-loop μ-loop
-add-next c = omega (arith, div-le-self (c .before .before .before .args .n) (c .loop .r))
-
-returns-2 : tie.Need-returns-2 Inv-loop μ-loop
-returns-2 c = last (c .before .before .before .before .args .n) (c .before .loop .r) (c .before .before .before .before .pre) (c .before .loop .inv) (c .if2 .taken)
+step-requires-2 : tie.Need-step-requires-2 Inv-loop μ-loop
+step-requires-2 c κs = again _ (c .before .loop .r) (c .before .loop .inv) (c .loop-test .taken)
 
 loop-less : tie.Need-loop-less Inv-loop μ-loop
-loop-less c = c .if2 .left
+loop-less c =
+    let l = c .before .before .loop in
+    falls (c .before .before .before .before .before .before .args .n) (l .r) (c .step2 .result) (c .step2 .ensures) (l .inv .some) (c .before .loop-test .taken)
 
 loop-again : tie.Need-loop-again Inv-loop μ-loop
-loop-again c = step (c .before .before .before .before .args .n) (c .before .loop .r) (omega arith) (c .before .loop .inv) (c .if2 .left)
+loop-again c =
+    let l = c .before .before .loop in
+    let n = c .before .before .before .before .before .before .args .n in
+    step-reaches n (l .r) (c .step2 .result) (c .step2 .ensures) (omega arith) (again n (l .r) (l .inv) (c .before .loop-test .taken))
+
+returns-2 : tie.Need-returns-2 Inv-loop μ-loop
+returns-2 c = last _ (c .before .loop .r) (c .before .before .before .before .before .pre) (c .before .loop .inv) (omega arith)
 
 pub root-spec : {M : Type 1} → statement M
-root-spec = tie.close (tie.spec Inv-loop μ-loop returns guess-requires loop-holds div-next add-next returns-2 loop-less loop-again)
+root-spec = tie.close (tie.spec Inv-loop μ-loop returns guess-requires step-requires loop-holds mul-loop step-requires-2 loop-less loop-again returns-2)
