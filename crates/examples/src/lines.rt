@@ -1,17 +1,8 @@
 // The lines of a text at their edges. Each line of the table is a case: a line number, where that line starts and ends, and the text,
 // with a slash for each LF.
-use crate::report;
-use crate::text;
-
-// Whether a stretch is what stands in a text from a place on.
-fn same(stretch: &[u8], whole: &[u8], start: usize) -> bool {
-    for i in 0..stretch.len() {
-        if text::byte(stretch, i) != text::byte(whole, std::num::wrapping_add_usize(start, i)) {
-            return false;
-        }
-    }
-    true
-}
+use crate::unfold;
+use cases::report;
+use cases::text;
 
 // Whether a text has a line where it is said to be.
 fn right(whole: &[u8], line: usize, start: usize, end: usize) -> bool {
@@ -28,7 +19,7 @@ fn right(whole: &[u8], line: usize, start: usize, end: usize) -> bool {
     if std::num::wrapping_add_usize(start, stretch.len()) != end {
         return false;
     }
-    same(stretch, whole, start)
+    text::same(stretch, stretch.len(), whole, start)
 }
 
 // Whether a case agrees.
@@ -36,7 +27,7 @@ fn agrees(table: &[u8], from: usize, room: &mut [u8]) -> bool {
     let line = text::count_in(table, from, 0);
     let start = text::count_in(table, from, 1);
     let end = text::count_in(table, from, 2);
-    let n = text::unfold(table, text::field(table, from, 3), room);
+    let n = unfold::unfold(table, text::field(table, from, 3), room);
     let zero: usize = 0;
     if room.len() < n {
         return false;

@@ -1,0 +1,26 @@
+// The comparisons of solve that the gate runs. Each group prints its name, its number of cases and its number of agreements; a
+// disagreement prints its case.
+mod refusals;
+mod small;
+mod solving;
+
+// The refusals of solve.
+fn solve_refusals() {
+    let mut buffer = io::large_buffer();
+    let n = cases::table::load(b"refusals.txt", &mut buffer);
+    refusals::compare(b"refusals of solve", &buffer[..n]);
+}
+
+// What an answer leaves in the buffers.
+fn buffers() {
+    let mut buffer = io::large_buffer();
+    let n = cases::table::load(b"buffers.txt", &mut buffer);
+    refusals::compare(b"buffers after solve", &buffer[..n]);
+}
+
+// Runs every group.
+fn main() {
+    solve_refusals();
+    buffers();
+    small::compare();
+}
