@@ -21,7 +21,7 @@ use Rattle.translate.specs.Sheet.{Sheet, quantitiesIn, problemIn}
 use Rattle.translate.specs.Grounds.{read, outcomeOf}
 use Rattle.translate.proofs.Flat.{ranges-length, names-length}
 use Rattle.translate.proofs.Fits.{read-back}
-use Rattle.answer.specs.Text.{bytes}
+use Rattle.sheet.specs.Text.{bytes}
 use Rattle.answer.specs.Output.{refusedLine, countLine, answerLines, deskBudget, deskWork, deskPoint, solvedOf}
 use Rattle.answer.specs.inner.Writing.{linesFor}
 use Rattle.answer.specs.inner.Reporting.{reportOf, reportBy, reportOn}

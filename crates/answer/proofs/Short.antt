@@ -16,7 +16,7 @@ use Rattle.translate.specs.Grounds.{Outcome, refused, read, outcomeOf}
 use Rattle.translate.specs.Grounds as sheet
 use Rattle.translate.proofs.Flat.{padded-length}
 use Rattle.translate.proofs.Fits.{fits}
-use Rattle.answer.specs.Text.{bytes}
+use Rattle.sheet.specs.Text.{bytes}
 use Rattle.answer.specs.Output.{valueLine, valueLines, refusedLine, countLine, answerLines, deskBudget, deskWork, deskPoint, solvedOf, printed, outputOf, Answers}
 use Rattle.answer.specs.inner.Writing.{Puts}
 use Rattle.answer.proofs.Writing.{puts-front}

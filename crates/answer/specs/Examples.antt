@@ -31,7 +31,7 @@ use Rattle.translate.specs.Translation as translation
 use Rattle.translate.specs.Lists as lists
 use Rattle.translate.specs.Sheet.{Sheet, quantitiesIn, problemIn, after}
 use Rattle.translate.specs.Grounds as grounds
-use Rattle.answer.specs.Text.{bytes}
+use Rattle.sheet.specs.Text.{bytes}
 use Rattle.answer.specs.Output.{digits, valueLines, solvedOf, outputOf}
 
 -- ---- tests

@@ -14,12 +14,12 @@ use Rattle.problem.specs.Grounds.{refusalNumber}
 use Rattle.translate.specs.Lists.{rangeList, primitiveList, lengthList, literalsIn, literalList, lettersOf}
 use Rattle.translate.specs.Sheet.{Sheet, quantitiesIn, problemIn}
 use Rattle.translate.specs.Grounds as sheet
-use Rattle.answer.specs.Text.{bytes}
+use Rattle.sheet.specs.Text.{bytes, word}
 
 -- digits of a number, at most f + 1 of them
 unfoldable pub digits : ℕ → ℕ → List ℕ
-digits zero n = (48 + n % 10) ∷ []
-digits (suc f) n = cond (ltb n 10) ((48 + n) ∷ []) (digits f (n / 10) ++ ((48 + n % 10) ∷ []))
+digits zero n = (word "0" + n % 10) ∷ []
+digits (suc f) n = cond (ltb n 10) ((word "0" + n) ∷ []) (digits f (n / 10) ++ ((word "0" + n % 10) ∷ []))
 
 -- a number in decimal
 abbrev pub decimal : ℕ → List ℕ
@@ -28,11 +28,11 @@ decimal n = digits 19 n
 -- a value, with `-` where it is below 0
 abbrev pub signedDecimal : ℤ → List ℕ
 signedDecimal (pos n) = decimal n
-signedDecimal (negsuc n) = 45 ∷ decimal (suc n)
+signedDecimal (negsuc n) = word "-" ∷ decimal (suc n)
 
 -- a name, without padding, a space, its value, LF
 abbrev pub valueLine : ℕ → ℤ → List ℕ
-valueLine k z = lettersOf 8 k ++ (32 ∷ (signedDecimal z ++ (10 ∷ [])))
+valueLine k z = lettersOf 8 k ++ (word " " ∷ (signedDecimal z ++ (word "\n" ∷ [])))
 
 -- each declared name and value
 unfoldable pub valueLines : List ℕ → List ℤ → List ℕ
@@ -42,11 +42,11 @@ valueLines (k ∷ ks) (z ∷ zs) = valueLine k z ++ valueLines ks zs
 
 -- `REFUSED`, number and line
 abbrev pub refusedLine : ℕ → ℕ → List ℕ
-refusedLine number line = bytes "REFUSED " ++ (decimal number ++ (32 ∷ (decimal line ++ (10 ∷ []))))
+refusedLine number line = bytes "REFUSED " ++ (decimal number ++ (word " " ∷ (decimal line ++ (word "\n" ∷ []))))
 
 -- a word and the sweep count
 abbrev pub countLine : List ℕ → ℕ → List ℕ
-countLine word sweeps = word ++ (32 ∷ (decimal sweeps ++ (10 ∷ [])))
+countLine said sweeps = said ++ (word " " ∷ (decimal sweeps ++ (word "\n" ∷ [])))
 
 -- `NONE` has no value lines; after `STOP` they are the floor
 abbrev pub answerLines : Answer → ℕ → List ℕ → List ℤ → List ℕ

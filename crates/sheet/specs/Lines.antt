@@ -4,6 +4,7 @@ use mathlib.Core.List.{List, [], _∷_}
 use Prim.Native.Nat.{ℕ, zero, suc, _+_}
 use lib.Dec.{eqb, ltb}
 use lib.ListN.{length, getD}
+use Rattle.sheet.specs.Text.{word}
 use Rattle.sheet.specs.declared.Stretch.{Stretch}
 
 -- a byte before the first line
@@ -14,7 +15,7 @@ withFirst b (l ∷ ls) = (b ∷ l) ∷ ls
 -- the lines, without their LF; an unended last stretch, if not empty, is a line
 unfoldable pub linesOf : List ℕ → List (List ℕ)
 linesOf [] = []
-linesOf (b ∷ bs) = cond (eqb b 10) ([] ∷ linesOf bs) (withFirst b (linesOf bs))
+linesOf (b ∷ bs) = cond (eqb b (word "\n")) ([] ∷ linesOf bs) (withFirst b (linesOf bs))
 
 -- where line k starts, line 1 at 0: behind the lines before it and their LFs
 unfoldable pub startOf : List (List ℕ) → ℕ → ℕ

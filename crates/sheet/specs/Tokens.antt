@@ -6,6 +6,7 @@ use Prim.Native.Nat.{ℕ, zero, suc, _+_, _-_, _*_}
 use lib.Dec.{leb, ltb, eqb}
 use lib.ListN.{length}
 use Rattle.sheet.specs.Lines.{withFirst}
+use Rattle.sheet.specs.Text.{word}
 use Rattle.sheet.specs.declared.Mark.{Mark}
 use Rattle.sheet.specs.declared.Mark.the-variants.{Open, Close, Plus, Minus, Times, Square, AtMost, Below, AtLeast, Above, Equal, Differ, Range, Must, If, Then, And, Or}
 use Rattle.sheet.specs.declared.Value.{Value}
@@ -16,15 +17,15 @@ use Rattle.sheet.specs.declared.Token.the-variants.{Number, Negative, Na
 -- the pieces between spaces
 unfoldable pub piecesOf : List ℕ → List (List ℕ)
 piecesOf [] = [] ∷ []
-piecesOf (b ∷ bs) = cond (eqb b 32) ([] ∷ piecesOf bs) (withFirst b (piecesOf bs))
+piecesOf (b ∷ bs) = cond (eqb b (word " ")) ([] ∷ piecesOf bs) (withFirst b (piecesOf bs))
 
 -- ---- numbers: digits without leading zeros, then optionally K, M or G directly after
 abbrev pub isDigit : ℕ → Bool
-isDigit b = leb 48 b && leb b 57
+isDigit b = leb (word "0") b && leb b (word "9")
 
 -- K, M or G, for 1,000, 1,000,000 or 1,000,000,000; 0 for any other byte
 abbrev pub unitOf : ℕ → ℕ
-unitOf b = cond (eqb b 75) 1_000 (cond (eqb b 77) 1_000_000 (cond (eqb b 71) 1_000_000_000 0))
+unitOf b = cond (eqb b (word "K")) 1_000 (cond (eqb b (word "M")) 1_000_000 (cond (eqb b (word "G")) 1_000_000_000 0))
 
 -- the value is at most M = 10^12
 abbrev pub limited : ℕ → Value
@@ -38,7 +39,7 @@ suffixOf v b (x ∷ xs) = Not
 -- what further digits, and a unit, make of the value of the digits before them
 unfoldable pub digitsOf : ℕ → List ℕ → Value
 digitsOf v [] = limited v
-digitsOf v (b ∷ bs) = cond (isDigit b) (digitsOf (v * 10 + (b - 48)) bs) (suffixOf v b bs)
+digitsOf v (b ∷ bs) = cond (isDigit b) (digitsOf (v * 10 + (b - word "0")) bs) (suffixOf v b bs)
 
 -- a digit stands first
 unfoldable pub digitFirst : List ℕ → Bool
@@ -48,7 +49,7 @@ digitFirst (b ∷ bs) = isDigit b
 -- the value of a piece that is a number
 unfoldable pub numberOf : List ℕ → Value
 numberOf [] = Not
-numberOf (b ∷ bs) = cond (isDigit b) (cond (eqb b 48 && digitFirst bs) Not (digitsOf (b - 48) bs)) Not
+numberOf (b ∷ bs) = cond (isDigit b) (cond (eqb b (word "0") && digitFirst bs) Not (digitsOf (b - word "0") bs)) Not
 
 abbrev pub asNumber : Value → Token
 asNumber (Is v) = Number v
@@ -67,29 +68,29 @@ keyOf k (b ∷ bs) = keyOf (k * 256 + b) bs
 
 unfoldable pub allLower : List ℕ → Bool
 allLower [] = true
-allLower (b ∷ bs) = leb 97 b && (leb b 122 && allLower bs)
+allLower (b ∷ bs) = leb (word "a") b && (leb b (word "z") && allLower bs)
 
--- the fixed marks: ( ) + - * ^2 <= < >= > = != range must if then and or
+-- the fixed marks
 unfoldable pub markOf : ℕ → Token
 markOf k =
-    cond (eqb k 40) (Fixed Open)
-    (cond (eqb k 41) (Fixed Close)
-    (cond (eqb k 43) (Fixed Plus)
-    (cond (eqb k 45) (Fixed Minus)
-    (cond (eqb k 42) (Fixed Times)
-    (cond (eqb k 24114) (Fixed Square)
-    (cond (eqb k 15421) (Fixed AtMost)
-    (cond (eqb k 60) (Fixed Below)
-    (cond (eqb k 15933) (Fixed AtLeast)
-    (cond (eqb k 62) (Fixed Above)
-    (cond (eqb k 61) (Fixed Equal)
-    (cond (eqb k 8509) (Fixed Differ)
-    (cond (eqb k 491260897125) (Fixed Range)
-    (cond (eqb k 1836413812) (Fixed Must)
-    (cond (eqb k 26982) (Fixed If)
-    (cond (eqb k 1952998766) (Fixed Then)
-    (cond (eqb k 6385252) (Fixed And)
-    (cond (eqb k 28530) (Fixed Or) Bad)))))))))))))))))
+    cond (eqb k (word "(")) (Fixed Open)
+    (cond (eqb k (word ")")) (Fixed Close)
+    (cond (eqb k (word "+")) (Fixed Plus)
+    (cond (eqb k (word "-")) (Fixed Minus)
+    (cond (eqb k (word "*")) (Fixed Times)
+    (cond (eqb k (word "^2")) (Fixed Square)
+    (cond (eqb k (word "<=")) (Fixed AtMost)
+    (cond (eqb k (word "<")) (Fixed Below)
+    (cond (eqb k (word ">=")) (Fixed AtLeast)
+    (cond (eqb k (word ">")) (Fixed Above)
+    (cond (eqb k (word "=")) (Fixed Equal)
+    (cond (eqb k (word "!=")) (Fixed Differ)
+    (cond (eqb k (word "range")) (Fixed Range)
+    (cond (eqb k (word "must")) (Fixed Must)
+    (cond (eqb k (word "if")) (Fixed If)
+    (cond (eqb k (word "then")) (Fixed Then)
+    (cond (eqb k (word "and")) (Fixed And)
+    (cond (eqb k (word "or")) (Fixed Or) Bad)))))))))))))))))
 
 -- t, or u where t is no token
 abbrev pub orElse : Token → Token → Token
@@ -110,7 +111,7 @@ wordOf w = cond (leb (length w) 8) (orElse (markOf (keyOf 0 w)) (asName w)) Bad
 -- `-` and a digit behind it
 unfoldable pub minusFirst : List ℕ → Bool
 minusFirst [] = false
-minusFirst (b ∷ bs) = eqb b 45 && digitFirst bs
+minusFirst (b ∷ bs) = eqb b (word "-") && digitFirst bs
 
 abbrev pub behind : List ℕ → List ℕ
 behind [] = []

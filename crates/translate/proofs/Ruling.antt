@@ -93,7 +93,7 @@ module _ (b : Bool) (ts : List Token) (g : Progress) (rs ps ns ls : List ℤ) (k
       let e = unheard (ruleF b n ts) (take (g .declared) keys) (startOf g rs ps (behindOf g ls) ss) (h .agrees n l) in
       rw e (record { says = λ s k i p. refl })
 
-  module _ (full : Full rs ps ns ls keys) (long : length ss ≡ 3072) (m : Making) (c e : ℕ) (rs′ ps′ fs′ ss′ : List ℤ) (h : Rules (λ k. ruleF b k ts) (take (g .declared) keys) (length ts) (startOf g rs ps (behindOf g ls) ss) (Done m c e) rs′ ps′ fs′ ss′) (n : ℕ) (l : 8 * length ts + 8 ≤ n) where
+  module _ (full : Full rs ps ns ls keys) (long : length ss ≡ 768) (m : Making) (c e : ℕ) (rs′ ps′ fs′ ss′ : List ℤ) (h : Rules (λ k. ruleF b k ts) (take (g .declared) keys) (length ts) (startOf g rs ps (behindOf g ls) ss) (Done m c e) rs′ ps′ fs′ ss′) (n : ℕ) (l : 8 * length ts + 8 ≤ n) where
     tree : Heard (ruleF b n ts) (take (g .declared) keys) (startOf g rs ps (behindOf g ls) ss) (listingFrom m c e rs′ ps′ fs′ ss′)
     tree = heard (ruleF b n ts) (take (g .declared) keys) (startOf g rs ps (behindOf g ls) ss) (listingFrom m c e rs′ ps′ fs′ ss′) (h .agrees n l)
 
@@ -143,7 +143,7 @@ module _ (b : Bool) (ts : List Token) (g : Progress) (rs ps ns ls : List ℤ) (k
             with-rule : (s : Sheet) → Stored s g rs ps ns ls keys → Proper s → Added s (tree .line) g (listingFrom m c e rs′ ps′ fs′ ss′)
             with-rule s i p = accepted (told s i p) u w v
 
-            pub rule-room : (s : Sheet) → Stored s g rs ps ns ls keys → Proper s → length ss′ ≡ 3072 → Roomy g c ns (putMid (3 * g .literals) (length ls - 3 * g .literals) ls fs′) ss′
+            pub rule-room : (s : Sheet) → Stored s g rs ps ns ls keys → Proper s → length ss′ ≡ 768 → Roomy g c ns (putMid (3 * g .literals) (length ls - 3 * g .literals) ls fs′) ss′
             rule-room s i p o =
                 let a = with-rule s i p in
                 let r = room i p in

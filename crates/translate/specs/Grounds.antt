@@ -11,6 +11,7 @@ use Rattle.whole.specs.Numbers.{M, minusM}
 use Rattle.whole.specs.declared.Range.{Range}
 use Rattle.problem.specs.Grounds.{beyond}
 use Rattle.sheet.specs.Lines.{linesOf, lineOf}
+use Rattle.sheet.specs.Text.{word}
 use Rattle.sheet.specs.Tokens.{isDigit, digitFirst, tokensOf}
 use Rattle.sheet.specs.Depth.{tooDeep}
 use Rattle.sheet.specs.Grammar.{Comparison, Line, ranged, default, must, when}
@@ -30,7 +31,7 @@ shortLists rs ps ns ls bytes =
 
 -- a byte other than LF and 32 to 126
 abbrev pub badByte : ℕ → Bool
-badByte b = not (eqb b 10) && (ltb b 32 || ltb 126 b)
+badByte b = not (eqb b (word "\n")) && (ltb b 32 || ltb 126 b)
 
 unfoldable pub anyBadByte : List ℕ → Bool
 anyBadByte [] = false
@@ -38,17 +39,17 @@ anyBadByte (b ∷ bs) = badByte b || anyBadByte bs
 
 -- 20: empty, over 4,096 bytes, a byte other than LF and 32 to 126, or no LF at the end
 abbrev pub badText : List ℕ → Bool
-badText t = eqb (length t) 0 || (ltb 4096 (length t) || (anyBadByte t || not (eqb (getD t (length t - 1) 0) 10)))
+badText t = eqb (length t) 0 || (ltb 4096 (length t) || (anyBadByte t || not (eqb (getD t (length t - 1) 0) (word "\n"))))
 
 -- the value of digits alone, going on from the value of those before; at most 65,535
 unfoldable pub versionFrom : ℕ → List ℕ → Value
 versionFrom v [] = cond (leb v 65_535) (Is v) Not
-versionFrom v (b ∷ bs) = cond (isDigit b) (versionFrom (v * 10 + (b - 48)) bs) Not
+versionFrom v (b ∷ bs) = cond (isDigit b) (versionFrom (v * 10 + (b - word "0")) bs) Not
 
 -- a version of 0 to 65,535 without leading zeros
 unfoldable pub versionOf : List ℕ → Value
 versionOf [] = Not
-versionOf (b ∷ bs) = cond (isDigit b && not (eqb b 48 && digitFirst bs)) (versionFrom (b - 48) bs) Not
+versionOf (b ∷ bs) = cond (isDigit b && not (eqb b (word "0") && digitFirst bs)) (versionFrom (b - word "0") bs) Not
 
 -- 21: line 1 is the mark `RUL`, a space, and a version
 unfoldable pub firstLine : List ℕ → Value
@@ -56,7 +57,7 @@ firstLine [] = Not
 firstLine (r ∷ []) = Not
 firstLine (r ∷ (u ∷ [])) = Not
 firstLine (r ∷ (u ∷ (l ∷ []))) = Not
-firstLine (r ∷ (u ∷ (l ∷ (s ∷ ds)))) = cond (eqb r 82 && (eqb u 85 && (eqb l 76 && eqb s 32))) (versionOf ds) Not
+firstLine (r ∷ (u ∷ (l ∷ (s ∷ ds)))) = cond (eqb r (word "R") && (eqb u (word "U") && (eqb l (word "L") && eqb s (word " ")))) (versionOf ds) Not
 
 -- the top of the default range, by the version
 abbrev pub topOf : ℕ → ℕ

@@ -5,6 +5,7 @@ use Prim.Native.Nat.{ℕ, zero, suc, _-_, _/_, _%_}
 use lib.Dec.{eqb}
 use lib.ListN.{length, replicate}
 use lib.IntN.{ℤ, pos}
+use Rattle.sheet.specs.Text.{word}
 use Rattle.whole.specs.declared.Range.{Range}
 use Rattle.problem.specs.declared.Primitive.{Primitive}
 use Rattle.problem.specs.declared.Primitive.the-variants.{Sum, Product, Square}
@@ -46,7 +47,7 @@ lettersOf (suc f) k = cond (eqb k 0) [] (lettersOf f (k / 256) ++ (k % 256 ∷ [
 
 -- 8 bytes, padded with spaces
 abbrev pub padded : ℕ → List ℕ
-padded k = lettersOf 8 k ++ replicate (8 - length (lettersOf 8 k)) 32
+padded k = lettersOf 8 k ++ replicate (8 - length (lettersOf 8 k)) (word " ")
 
 unfoldable pub nameBytes : List ℕ → List ℕ
 nameBytes [] = []

@@ -162,7 +162,7 @@ fn rule_line(
     requires { ⌜ Standing done (now ranges) (now primitives) (now lengths) (now literals) (now keys) ⌝ }
     ensures { λ r. ⌜ ((n : ℕ) → 8 * length (tokensFrom (now (line .entry)) at) + 8 ≤ n → Answers (treeBy (ruleF conditional n (tokensFrom (now (line .entry)) at))) done (now (ranges .entry)) (now (primitives .entry)) (now (lengths .entry)) (now (literals .entry)) (now (keys .entry)) (now (ranges .exit)) (now (primitives .exit)) (now (lengths .exit)) (now (literals .exit)) (now (keys .entry)) r) ⌝ }
 {
-    let mut seconds = [0i64; 3072];
+    let mut seconds = [0i64; 768];
     let declared = done.declared;
     let start = 3 * done.literals;
     let none = Making {

@@ -10,7 +10,7 @@ use Rattle.search.specs.Search.{Outcome, searchOf}
 use Rattle.search.specs.Solve.{judged, resultOf, unless, pointOf}
 use Rattle.search.specs.declared.Answer.{Answer}
 use Rattle.search.specs.declared.Answer.the-variants.{None, Found, Stopped, Refused}
-use Rattle.answer.specs.Text.{bytes}
+use Rattle.sheet.specs.Text.{bytes}
 use Rattle.answer.specs.Output.{refusedLine, countLine, deskBudget, deskWork}
 use Rattle.answer.specs.inner.Writing.{linesFor}
 

@@ -7,6 +7,7 @@ use Prim.Native.Nat.{ℕ, _+_}
 use lib.Dec.{eqb, ltb}
 use lib.IntN.{ℤ}
 use lib.ListN.{length, set, take, drop}
+use Rattle.sheet.specs.Text.{word}
 use Rattle.answer.specs.Output.{signedDecimal}
 
 -- a buffer, and the place of the next byte
@@ -32,11 +33,11 @@ pub record Puts (bs l : List ℕ) (i : ℕ) (l′ : List ℕ) (i′ : ℕ) : Typ
 -- the bytes before the first space
 unfoldable pub unpadded : List ℕ → List ℕ
 unpadded [] = []
-unpadded (b ∷ bs) = cond (eqb b 32) [] (b ∷ unpadded bs)
+unpadded (b ∷ bs) = cond (eqb b (word " ")) [] (b ∷ unpadded bs)
 
 -- a name, without padding, a space, its value, LF
 abbrev pub lineFor : List ℕ → ℤ → List ℕ
-lineFor name z = unpadded name ++ (32 ∷ (signedDecimal z ++ (10 ∷ [])))
+lineFor name z = unpadded name ++ (word " " ∷ (signedDecimal z ++ (word "\n" ∷ [])))
 
 -- such a line for each value; names take 8 bytes each
 unfoldable pub linesFor : List ℕ → List ℤ → List ℕ
