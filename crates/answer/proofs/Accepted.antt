@@ -7,17 +7,17 @@ use lib.IntN.{ℤ, pos}
 use lib.ListN.{length, take, drop, replicate, length-append, length-replicate}
 use lib.Seq.{take-at}
 use borrow.Author.Tests.{le-ltb}
-use Rattle.translate.specs.Lists.{rangeList, primitiveList, lengthList, literalsIn, literalList, nameBytes}
-use Rattle.translate.specs.Sheet.{Sheet}
-use Rattle.translate.specs.Grounds.{Outcome, refused, read, outcomeOf}
-use Rattle.translate.specs.Grounds as sheet
+use Rattle.meaning.specs.Lists.{rangeList, primitiveList, lengthList, literalsIn, literalList, nameBytes}
+use Rattle.meaning.specs.Draft.{Draft}
+use Rattle.meaning.specs.Grounds.{Outcome, refused, read, outcomeOf}
+use Rattle.meaning.specs.Grounds as sheet
 use Rattle.translate.specs.Translate.{judged, countsOf, resultOf, filled, into, Translates}
-use Rattle.translate.specs.declared.Refusal.{Refusal}
+use Rattle.meaning.specs.declared.Refusal.{Refusal}
 use Rattle.translate.specs.declared.Counts.{Counts}
 use Rattle.translate.specs.declared.Translated.{Translated}
 use Rattle.translate.specs.declared.Translated.the-variants.{Accepted, Refused}
-use Rattle.translate.proofs.Flat.{ranges-length, primitives-length, lengths-length, literals-length, names-length}
-use Rattle.translate.proofs.Fits.{fits}
+use Rattle.meaning.proofs.FlatLists.{ranges-length, primitives-length, lengths-length, literals-length, names-length}
+use Rattle.meaning.proofs.Fits.{fits}
 use Rattle.answer.specs.Output.{refusedLine, printed, outputOf}
 use Rattle.answer.specs.inner.Reporting.{reportOn, Fronts}
 use Rattle.answer.proofs.Reporting.{report-sheet}
@@ -42,7 +42,7 @@ zeros-full =
 
 -- the counts and the fronts of the lists are those of the sheet that was read
 pub record Taken (t : List ℕ) (c : Counts) (rs ps ns ls : List ℤ) (bs : List ℕ) : Type 0 where
-  pub sheet : Sheet
+  pub draft : Draft
   pub is : outcomeOf t ≡ read sheet
   pub counts : c ≡ countsOf sheet
   pub ranges : take (2 * c .quantities) rs ≡ rangeList (sheet .declared ++ sheet .made .ranges)
@@ -79,13 +79,13 @@ module _ (t : List ℕ) (rs₀ ps₀ ns₀ ls₀ : List ℤ) (bs₀ : List ℕ) 
     pub taken : (c : Counts) → r ≡ Accepted c → Taken t c rs ps ns ls bs
     taken c e = go (outcomeOf t) refl (sym e ∙ h .result ∙ ap resultOf all-full)
       where
-        lists : (s : Sheet) → outcomeOf t ≡ read s → c ≡ countsOf s → Taken t c rs ps ns ls bs
+        lists : (s : Draft) → outcomeOf t ≡ read s → c ≡ countsOf s → Taken t c rs ps ns ls bs
         lists s i f =
             let j = all-full ∙ i in
             let d = s .declared ++ s .made .ranges in
             let cs = s .made .clauses in
             record {
-              sheet = s;
+              draft = s;
               is = i;
               counts = f;
               ranges = front (rangeList d) rs₀ rs (2 * c .quantities) (h .ranges ∙ ap (λ (o : Outcome). into o (λ s. rangeList (s .declared ++ s .made .ranges)) rs₀) j)
@@ -115,7 +115,7 @@ pub record Few (c : Counts) : Type 0 where
 module _ (t : List ℕ) (c : Counts) (rs ps ns ls : List ℤ) (bs : List ℕ) (h : Taken t c rs ps ns ls bs) where
   pub few : Few c
   few =
-      let f = fits t (h .sheet) (h .is) in
+      let f = fits t (h .draft) (h .is) in
       let e = h .counts in
       record {
         quantities = omega (arith, ap (λ (x : Counts). x .quantities) e, f .few);
@@ -127,8 +127,8 @@ module _ (t : List ℕ) (c : Counts) (rs ps ns ls : List ℤ) (bs : List ℕ) (h
 
   pub fronts : Fronts (take (2 * c .quantities) rs) (take (8 * c .declared) bs)
   fronts =
-      let f = fits t (h .sheet) (h .is) in
-      let s = h .sheet in
+      let f = fits t (h .draft) (h .is) in
+      let s = h .draft in
       rw (h .ranges, h .names)
       (record {
         few = omega (arith, ranges-length (s .declared ++ s .made .ranges), length-append (s .declared) (s .made .ranges), f .few);
@@ -137,4 +137,4 @@ module _ (t : List ℕ) (c : Counts) (rs ps ns ls : List ℤ) (bs : List ℕ) (h
 
   pub accepted-output : reportOn (take (2 * c .quantities) rs) (take (4 * c .primitives) ps) (take (c .clauses) ns) (take (3 * c .literals) ls) (take (8 * c .declared) bs) ≡ outputOf t
   unfolding outputOf
-  accepted-output = rw (h .ranges, h .primitives, h .lengths, h .literals, h .names) (report-sheet t (h .sheet) (h .is) ∙ ap printed (sym (h .is)))
+  accepted-output = rw (h .ranges, h .primitives, h .lengths, h .literals, h .names) (report-sheet t (h .draft) (h .is) ∙ ap printed (sym (h .is)))

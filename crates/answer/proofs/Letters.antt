@@ -11,9 +11,9 @@ use lib.Seq.{take-at, drop-at}
 use borrow.Author.Tests.{leb-true, ne-eqb}
 use Rattle.whole.specs.Lists.{AllOf}
 use Rattle.sheet.specs.Tokens.{keyOf, allLower}
-use Rattle.translate.specs.Lists.{lettersOf, padded, nameBytes}
-use Rattle.translate.proofs.Tests.{both-on}
-use Rattle.translate.proofs.Flat.{padded-length}
+use Rattle.meaning.specs.Lists.{lettersOf, padded, nameBytes}
+use Rattle.meaning.proofs.Tests.{both-on}
+use Rattle.meaning.proofs.FlatLists.{padded-length}
 use Rattle.answer.specs.Output.{valueLines}
 use Rattle.answer.specs.inner.Writing.{unpadded, linesFor}
 use Rattle.answer.proofs.Names.{Lettered}

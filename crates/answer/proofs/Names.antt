@@ -14,12 +14,12 @@ use Rattle.sheet.specs.declared.Value.{Value}
 use Rattle.sheet.specs.declared.Value.the-variants.{Is, Not}
 use Rattle.sheet.specs.declared.Token.{Token}
 use Rattle.sheet.specs.declared.Token.the-variants.{Number, Negative, Name, Fixed, Bad}
-use Rattle.translate.specs.Sheet.{Sheet, blank, after}
-use Rattle.translate.specs.Grounds.{read, topOf, outcomeOf}
-use Rattle.translate.proofs.Tests.{both-on}
-use Rattle.translate.proofs.Lists.{all-join}
-use Rattle.translate.proofs.Faultless.{text-read}
-use Rattle.translate.proofs.Reading.{by-lines}
+use Rattle.meaning.specs.Draft.{Draft, blank, after}
+use Rattle.meaning.specs.Grounds.{read, topOf, outcomeOf}
+use Rattle.meaning.proofs.Tests.{both-on}
+use Rattle.meaning.proofs.Elements.{all-join}
+use Rattle.meaning.proofs.Faultless.{text-read}
+use Rattle.meaning.proofs.LineInduction.{by-lines}
 
 -- a name is 1 to 8 lower-case letters
 pub record Lettered (n : ℕ) : Type 0 where
@@ -94,14 +94,14 @@ unfolding tokensOf
 tokens-spelt l ts e = subst (AllOf Spelt) e (pieces-spelt (piecesOf l))
 
 -- ---- sheets: a line more
-lettered-after : (top : ℕ) (s : Sheet) (t : List ℕ) (l : Line) → AllOf Lettered (s .names) → tokensOf t ≡ spellLine l → AllOf Lettered (after top s l .names)
+lettered-after : (top : ℕ) (s : Draft) (t : List ℕ) (l : Line) → AllOf Lettered (s .names) → tokensOf t ≡ spellLine l → AllOf Lettered (after top s l .names)
 unfolding after spellLine
 lettered-after top s t (ranged n low high) h e = all-join Lettered (s .names) (n ∷ []) h (tokens-spelt t _ e .1 .0, tt)
 lettered-after top s t (default n) h e = all-join Lettered (s .names) (n ∷ []) h (tokens-spelt t _ e .1 .0, tt)
 lettered-after top s t (must d ds) h e = h
 lettered-after top s t (when c cs d ds) h e = h
 
-pub names-lettered : (t : List ℕ) (s : Sheet) → outcomeOf t ≡ read s → AllOf Lettered (s .names)
+pub names-lettered : (t : List ℕ) (s : Draft) → outcomeOf t ≡ read s → AllOf Lettered (s .names)
 names-lettered t s e =
     let r = text-read t s e in
     by-lines (topOf (r .version)) (λ ls s. AllOf Lettered (s .names)) (λ ls s t l h spelt f. lettered-after (topOf (r .version)) s t l h spelt) _ 2 blank s [] tt (r .lines) .2

@@ -14,17 +14,17 @@ use Rattle.search.specs.Demand2.{Right, Smallest, NoneBefore, pointAt}
 use Rattle.search.specs.declared.Solved.{Solved}
 use Rattle.search.proofs.Promise.{solve-right}
 use Rattle.sheet.specs.Grammar.{Line}
-use Rattle.translate.specs.Lists.{rangeList, primitiveList, lengthList, literalsIn, literalList}
-use Rattle.translate.specs.Sheet.{Sheet, quantitiesIn, problemIn}
-use Rattle.translate.specs.Grounds.{outcomeOf, read}
-use Rattle.translate.specs.Demand3.{Spells, Faithful}
-use Rattle.translate.proofs.Demand3 as demand3
-use Rattle.translate.proofs.Fits.{fits, read-back}
+use Rattle.meaning.specs.Lists.{rangeList, primitiveList, lengthList, literalsIn, literalList}
+use Rattle.meaning.specs.Draft.{Draft, quantitiesIn, problemIn}
+use Rattle.meaning.specs.Grounds.{outcomeOf, read}
+use Rattle.meaning.specs.Demand3.{Spells, Faithful}
+use Rattle.meaning.proofs.Demand3 as demand3
+use Rattle.meaning.proofs.Fits.{fits, read-back}
 use Rattle.answer.specs.Sheets.{Means, inOrder, byPoint, NoneObeysBefore}
 use lib.ListN.{length-append}
-use Rattle.translate.proofs.Flat.{quantities-is}
+use Rattle.meaning.proofs.FlatLists.{quantities-is}
 
-module _ (t : List ℕ) (s : Sheet) (e : outcomeOf t ≡ read s) where
+module _ (t : List ℕ) (s : Draft) (e : outcomeOf t ≡ read s) where
   counted : quantities (problemIn s .ranges) ≡ quantitiesIn s
   counted = quantities-is (s .declared ++ s .made .ranges) ∙ length-append (s .declared) (s .made .ranges)
 
@@ -48,7 +48,7 @@ module _ (t : List ℕ) (s : Sheet) (e : outcomeOf t ≡ read s) where
         }
 
 -- for every accepted sheet: what a solve of its lists answers, read for the sheet as written, in order of declaration
-pub sheet-answer : (t : List ℕ) (s : Sheet) → outcomeOf t ≡ read s
+pub sheet-answer : (t : List ℕ) (s : Draft) → outcomeOf t ≡ read s
     → {budget : ℤ} {p₀ w₀ p w : List ℤ} {r : Solved}
     → Solves (rangeList (s .declared ++ s .made .ranges)) (primitiveList (s .made .primitives)) (lengthList (s .made .clauses)) (literalList (literalsIn (s .made .clauses))) budget p₀ w₀ p w r
     → judged (rangeList (s .declared ++ s .made .ranges)) (primitiveList (s .made .primitives)) (lengthList (s .made .clauses)) (literalList (literalsIn (s .made .clauses))) budget p₀ w₀ ≡ Sound

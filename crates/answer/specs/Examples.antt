@@ -26,11 +26,11 @@ use Rattle.sheet.specs.Tokens as tokens
 use Rattle.sheet.specs.Grammar.{Line}
 use Rattle.sheet.specs.Reading as reading
 use Rattle.sheet.specs.Depth.{deepFrom}
-use Rattle.translate.specs.Plain as plain
-use Rattle.translate.specs.Translation as translation
-use Rattle.translate.specs.Lists as lists
-use Rattle.translate.specs.Sheet.{Sheet, quantitiesIn, problemIn, after}
-use Rattle.translate.specs.Grounds as grounds
+use Rattle.meaning.specs.Plain as plain
+use Rattle.meaning.specs.Translation as translation
+use Rattle.meaning.specs.Lists as lists
+use Rattle.meaning.specs.Draft.{Draft, quantitiesIn, problemIn, after}
+use Rattle.meaning.specs.Grounds as grounds
 use Rattle.sheet.specs.Text.{bytes}
 use Rattle.answer.specs.Output.{digits, valueLines, solvedOf, outputOf}
 
@@ -82,7 +82,7 @@ pub data Case : Type 0 where
   -- a sheet's n, D and workspace
   needs : String → ℕ → ℕ → ℕ → Case
 
-abbrev pub sheetPasses : (Sheet → Bool) → grounds.Outcome → Bool
+abbrev pub sheetPasses : (Draft → Bool) → grounds.Outcome → Bool
 sheetPasses f (grounds.refused g k) = false
 sheetPasses f (grounds.read s) = f s
 

@@ -15,7 +15,7 @@ use Rattle.narrow.specs.inner.Clause.{quantityOf}
 use Rattle.narrow.proofs.Boxes.{Single}
 use Rattle.narrow.proofs.Cuts.{Quiet, Allows}
 use Rattle.narrow.proofs.Sites.{PlacedIn}
-use Rattle.narrow.proofs.Steps.{Sound}
+use Rattle.narrow.proofs.Steps.{LosesNone}
 
 module _ (n : ℕ) (p : Point) where
   -- the literal's quantity is among the first n, and it is true
@@ -47,7 +47,7 @@ module _ (n : ℕ) (p : Point) where
     unit-allows (l ∷ []) (inr s) = absurd s
     unit-allows (l ∷ (m ∷ ls)) s = tt
 
-  pub clause-sound : (ls : List Literal) → PlacedIn n ls → OneOf (True p) ls → Sound n p (clauseStep ls)
+  pub clause-sound : (ls : List Literal) → PlacedIn n ls → OneOf (True p) ls → LosesNone n p (clauseStep ls)
   clause-sound ls hs s b i = unit-allows b i (openOf b ls) (some-open b i ls hs s)
 
 -- ---- at one point's box a literal that is not false is true

@@ -82,8 +82,8 @@ moved-less ss b b′ e = movedTo (steps-are ss b) e .1
 
 -- ---- a point that every step allows is kept
 -- a step allows the point from every box that has it
-abbrev pub Sound : ℕ → Point → Step → Type 0
-Sound n p s = (b : Box) → Inside n p b → Allows n p (s b)
+abbrev pub LosesNone : ℕ → Point → Step → Type 0
+LosesNone n p s = (b : Box) → Inside n p b → Allows n p (s b)
 
 module _ (n : ℕ) (p : Point) where
   marked-keeps : (r : Result) → Keeps n p r → Keeps n p (marked r)
@@ -91,11 +91,11 @@ module _ (n : ℕ) (p : Point) where
   marked-keeps (moved b) k = k
   marked-keeps (still b) k = k
 
-  next-keeps : (s : Step) → Sound n p s → (r : Result) → Keeps n p r → Keeps n p (next r s)
+  next-keeps : (s : Step) → LosesNone n p s → (r : Result) → Keeps n p r → Keeps n p (next r s)
   next-keeps s f gone k = k
   next-keeps s f (moved b) k = marked-keeps (act (s b) b) (act-keeps n p (s b) b k (f b k))
   next-keeps s f (still b) k = act-keeps n p (s b) b k (f b k)
 
-  pub steps-keep : (ss : List Step) → AllOf (Sound n p) ss → (r : Result) → Keeps n p r → Keeps n p (steps r ss)
+  pub steps-keep : (ss : List Step) → AllOf (LosesNone n p) ss → (r : Result) → Keeps n p r → Keeps n p (steps r ss)
   steps-keep [] fs r k = k
   steps-keep (s ∷ ss) fs r k = steps-keep ss (fs .1) (next r s) (next-keeps s (fs .0) r k)

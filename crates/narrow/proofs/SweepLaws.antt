@@ -20,7 +20,7 @@ use Rattle.narrow.proofs.Constraints.{primitives-sound, clauses-sound, 
 use Rattle.narrow.proofs.Cuts.{Keeps}
 use Rattle.narrow.proofs.Lists.{both, left, right}
 use Rattle.narrow.proofs.Sites.{SitedAll, PlacedAll}
-use Rattle.narrow.proofs.Steps.{QuietAt, AllQuiet, still-quiet, quiet-still, moved-within, moved-less, Sound, steps-keep}
+use Rattle.narrow.proofs.Steps.{QuietAt, AllQuiet, still-quiet, quiet-still, moved-within, moved-less, LosesNone, steps-keep}
 
 -- ---- what a sweep comes to, as steps
 comes-changed : (r : Result) {b : Box} → comesTo r ≡ changed b → r ≡ moved b
@@ -88,7 +88,7 @@ sweep-settled n ps cs b long f e =
 -- ---- a point of the box that meets every primitive and every clause is kept
 module _ (n : ℕ) (p : Point) (ps : List Primitive) (cs : List (List Literal)) (sited : SitedAll n ps) (placed : PlacedAll n cs) (b : Box) (i : Inside n p b) (ms : AllOf (Holds p) ps) (ns : AllOf (OneOf (True p)) cs) where
   kept : Keeps n p (steps (still b) (sweepSteps ps cs))
-  kept = steps-keep n p (sweepSteps ps cs) (both (Sound n p) (allSteps ps) (map clauseStep cs) (primitives-sound n p ps sited ms) (clauses-sound n p cs placed ns)) (still b) i
+  kept = steps-keep n p (sweepSteps ps cs) (both (LosesNone n p) (allSteps ps) (map clauseStep cs) (primitives-sound n p ps sited ms) (clauses-sound n p cs placed ns)) (still b) i
 
   pub sweep-some : sweepOf ps cs b ≡ empty → ⊥
   unfolding sweepOf

@@ -12,7 +12,7 @@ use Rattle.problem.specs.Order.{Before}
 use Rattle.narrow.specs.Sweep.{Swept, empty, changed, unchanged}
 use Rattle.search.specs.Search.{lowerPart, upperPart, Outcome, stopped, found, none, run}
 use Rattle.search.specs.Depth.{depth}
-use Rattle.search.specs.inner.Laws.{Part, Lawful, Sound, Ordered}
+use Rattle.search.specs.inner.Laws.{Part, Lawful, Lossless, Ordered}
 use Rattle.search.specs.declared.Open.{Open}
 use Rattle.search.specs.declared.Open.the-variants.{At}
 use Rattle.search.proofs.Splits.{Splits, part-self, part-trans, in-part, lows-in, lower-part, upper-part, halves-all, halves-order}
@@ -111,7 +111,7 @@ module _ {sweep : Box → Swept} {choose : Box → Open} {n lead : ℕ} {start :
     stack k = kept sweep choose (Stack n lead start) stack-kept k start [] begin
 
     -- every satisfying point of the starting box is in the box in hand or in one that waits; at none there is no box left
-    pub cover : {Sat : Point → Type 0} → Sound sweep n start Sat → (k : ℕ) (p : Point) → Inside n p start → Sat p → Among n p (boxesOf (run sweep choose k start []))
+    pub cover : {Sat : Point → Type 0} → Lossless sweep n start Sat → (k : ℕ) (p : Point) → Inside n p start → Sat p → Among n p (boxesOf (run sweep choose k start []))
     cover {Sat} sound k p i sat =
         on-stack (λ bs. Among n p bs)
         (λ c ws f e. ⊎-elim (λ i. absurd (rw e at (sound .keeps c f p i sat))) (λ h. h))
@@ -141,7 +141,7 @@ module _ {sweep : Box → Swept} {choose : Box → Open} {n lead : ℕ} {start :
           let on = rw (sym (resume sweep choose start [] k m e) ∙ e′) at (inside m c ws s (lowAt c′)) in
           floor ws (s .0) (rw e at (in-order k)) (lowAt c′) (on (inl (lows-in (t .0))))
 
-      module _ (sound : Sound sweep n start Sat) where
+      module _ (sound : Lossless sweep n start Sat) where
         pub demand2 : (budget : ℕ) → Means n start Sat (run sweep choose budget start [])
         demand2 budget = by (run sweep choose budget start []) (stack budget) (in-order budget) (cover sound budget) (quiet sweep choose budget start [])
           where

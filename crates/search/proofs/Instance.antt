@@ -25,7 +25,7 @@ use Rattle.narrow.specs.inner.Clause.{quantityOf}
 use Rattle.narrow.proofs.Sites.{SitedIn, SitedAll, PlacedIn, PlacedAll}
 use Rattle.narrow.proofs.SweepLaws.{sweep-shrinks, sweep-settled, sweep-some, sweep-inside}
 use Rattle.search.specs.Search.{lowest}
-use Rattle.search.specs.inner.Laws.{Part, Shrinks, Stays, Lawful, Sound, Ordered}
+use Rattle.search.specs.inner.Laws.{Part, Shrinks, Stays, Lawful, Lossless, Ordered}
 use Rattle.search.specs.inner.Ready.{Started}
 use Rattle.search.proofs.Splits.{part-self}
 use Rattle.search.proofs.Choice.{lowest-leads, lowest-wide, lowest-first, lowest-closed}
@@ -133,7 +133,7 @@ module _ (rs ps ns ls : List ℤ) (j : Judges rs ps ns ls) where
         leading = omega arith;
       }
 
-  pub sweep-sound : Sound (sweepOf (primitivesOf ps) (clausesOf ns (literalsOf ls))) (quantities rs) rs (Meets (primitivesOf ps) (clausesOf ns (literalsOf ls)))
+  pub sweep-sound : Lossless (sweepOf (primitivesOf ps) (clausesOf ns (literalsOf ls))) (quantities rs) rs (Meets (primitivesOf ps) (clausesOf ns (literalsOf ls)))
   sweep-sound = record { keeps = keeps }
 
   pub sweep-ordered : Ordered (sweepOf (primitivesOf ps) (clausesOf ns (literalsOf ls))) (lowest (quantities rs)) (quantities rs) rs (Meets (primitivesOf ps) (clausesOf ns (literalsOf ls)))

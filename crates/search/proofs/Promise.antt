@@ -7,7 +7,7 @@ use Prim.Native.Nat.{ℕ, _-_, _≤_}
 use native.Mathlib.Omega.{arith}
 use lib.ListN.{length}
 use lib.IntN.{ℤ}
-use Rattle.whole.specs.Numbers.{P}
+use Rattle.whole.specs.Numbers.{positivePart}
 use Rattle.whole.specs.Ranges.{Point}
 use Rattle.problem.specs.Problem.{Box, quantities, Satisfies}
 use Rattle.problem.specs.Lists.{primitivesOf, literalsOf, clausesOf, problemOf}
@@ -126,10 +126,10 @@ module _ (rs ps ns ls : List ℤ) (sound : judgeOf rs ps ns ls ≡ Sound) (k : �
 
 -- what a solve of a problem that is not refused gives back is right for the problem
 pub solve-right : {rs ps ns ls : List ℤ} {budget : ℤ} {p₀ w₀ p w : List ℤ} {r : Solved} → Solves rs ps ns ls budget p₀ w₀ p w r → judged rs ps ns ls budget p₀ w₀ ≡ Sound
-    → Right (problemOf rs ps ns ls) (P budget) (r .answer) (r .sweeps) p
+    → Right (problemOf rs ps ns ls) (positivePart budget) (r .answer) (r .sweeps) p
 solve-right {rs} {ps} {ns} {ls} {budget} {p₀} {w₀} {p} {w} {r} s e =
     rw (rw e at (s .result), rw e at (s .point))
-    (right-of rs ps ns ls (accepted rs ps ns ls budget p₀ w₀ e .judge) (P budget) p₀ (searchOf (problemOf rs ps ns ls) (P budget)) refl)
+    (right-of rs ps ns ls (accepted rs ps ns ls budget p₀ w₀ e .judge) (positivePart budget) p₀ (searchOf (problemOf rs ps ns ls) (positivePart budget)) refl)
 
 -- a refusal gives its ground and sweep count 0, and leaves point buffer and workspace as they came
 pub solve-refused : {rs ps ns ls : List ℤ} {budget : ℤ} {p₀ w₀ p w : List ℤ} {r : Solved} → (g : Refusal) → Solves rs ps ns ls budget p₀ w₀ p w r → judged rs ps ns ls budget p₀ w₀ ≡ Refused g

@@ -7,7 +7,7 @@ use lib.Dec.{eqb, ltb}
 use lib.IntN.{ℤ, pos}
 use lib.ListN.{length, drop, replicate}
 use lib.Signed.{ltZ}
-use Rattle.whole.specs.Numbers.{P}
+use Rattle.whole.specs.Numbers.{positivePart}
 use Rattle.problem.specs.Problem.{Box, quantities}
 use Rattle.problem.specs.Lists.{problemOf}
 use Rattle.problem.specs.Grounds.{judgeOf, refusalNumber}
@@ -73,8 +73,8 @@ cleared room work = replicate room (pos 0) ++ drop room work
 
 -- the result, and what point buffer and workspace hold (p, w), from what they came with (p₀, w₀)
 pub record Solves (rs ps ns ls : List ℤ) (budget : ℤ) (p₀ w₀ p w : List ℤ) (r : Solved) : Type 0 where
-  pub result : r ≡ resultOf (judged rs ps ns ls budget p₀ w₀) (P budget) (searchOf (problemOf rs ps ns ls) (P budget))
-  pub point : p ≡ unless (judged rs ps ns ls budget p₀ w₀) (pointOf (searchOf (problemOf rs ps ns ls) (P budget)) p₀) p₀
+  pub result : r ≡ resultOf (judged rs ps ns ls budget p₀ w₀) (positivePart budget) (searchOf (problemOf rs ps ns ls) (positivePart budget))
+  pub point : p ≡ unless (judged rs ps ns ls budget p₀ w₀) (pointOf (searchOf (problemOf rs ps ns ls) (positivePart budget)) p₀) p₀
   pub work : w ≡ unless (judged rs ps ns ls budget p₀ w₀) (cleared (roomOf rs) w₀) w₀
 
 -- document 01's number of a refusal; 0 where there is none

@@ -1,9 +1,2 @@
-pub mod Plain
-pub mod Translation
-pub mod Lists
-pub mod Sheet
-pub mod Grounds
 pub mod Translate
-pub mod Refused
-pub mod Demand3
 pub mod inner

@@ -5,7 +5,7 @@ use native.Mathlib.Nat.{le-trans, pow-suc}
 use native.Mathlib.Omega.{arith}
 use lib.Count.{leadingZeros}
 use lib.IntN.{_-ℤ_}
-use Rattle.whole.specs.Numbers.{P, leastPower}
+use Rattle.whole.specs.Numbers.{positivePart, leastPower}
 use Rattle.whole.specs.Ranges.{values}
 use Rattle.whole.specs.inner.Held.{Good}
 use Rattle.whole.specs.declared.Range.{Range}
@@ -32,7 +32,7 @@ power-length : (v w m : ℕ) → v ≡ w + 1 → Length w m → m ≡ leastPower
 power-length v w m e f = power-only v m (record { enough = omega (arith, f .above); least = λ j h. shortest w m j f (omega arith) })
 
 -- the number before a range's values is how far its ends are apart
-pub halved : (r : Range) (w : ℕ) → Good r → w ≡ P (r .high -ℤ r .low) → (64 - leadingZeros 64 w ≡ leastPower (values r)) × (64 - leadingZeros 64 w ≤ 41)
+pub halved : (r : Range) (w : ℕ) → Good r → w ≡ positivePart (r .high -ℤ r .low) → (64 - leadingZeros 64 w ≡ leastPower (values r)) × (64 - leadingZeros 64 w ≤ 41)
 halved r w g e =
     let b = ends-apart r g in
     let f = length w (omega arith) in

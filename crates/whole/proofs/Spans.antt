@@ -6,11 +6,11 @@ use Prim.Native.Nat.{_+_, _≤_}
 use lib.Dec.{T}
 use lib.IntN.{ℤ, pos, _+ℤ_, _-ℤ_, _*ℤ_}
 use lib.Signed.{leZ, _≤ℤ_, _<ℤ_}
-use Rattle.whole.specs.Numbers.{P, N, minZ, maxZ, min4, max4}
+use Rattle.whole.specs.Numbers.{positivePart, negativePart, minZ, maxZ, min4, max4}
 use Rattle.whole.specs.Ranges.{range, In, values, holdsZero, sumSpan, differenceSpan, productSpan, squareSpan}
 use Rattle.whole.specs.inner.Held.{Good}
 use Rattle.whole.specs.declared.Range.{Range}
-use Rattle.whole.proofs.Kit.{ints, apart, plus, minus, times, cross, sign, square-N, min-parts, max-parts, prod-low, prod-high}
+use Rattle.whole.proofs.Kit.{ints, apart, plus, minus, times, cross, sign, square-negative, min-parts, max-parts, prod-low, prod-high}
 
 -- two ranges are one where their ends are
 pub ends-is : {a b c d : ℤ} → a ≡ c → b ≡ d → range a b ≡ range c d
@@ -117,7 +117,7 @@ pub square-in : (x : Range) (u : ℤ) → In x u → In (squareSpan x) (u *ℤ u
 square-in x u i = go (holdsZero x) refl
   where
     go : (t : Bool) → holdsZero x ≡ t → In (range (cond t (pos 0) (minZ (x .low *ℤ x .low) (x .high *ℤ x .high))) (maxZ (x .low *ℤ x .low) (x .high *ℤ x .high))) (u *ℤ u)
-    go true f = let m = square-up (x .low) (x .high) u (i .above) (i .below) in record { above = omega (ints, square-N u); below = m }
+    go true f = let m = square-up (x .low) (x .high) u (i .above) (i .below) in record { above = omega (ints, square-negative u); below = m }
     go false f = record { above = square-down (x .low) (x .high) u (i .above) (i .below) (clear x f); below = square-up (x .low) (x .high) u (i .above) (i .below) }
 
 -- ---- spans of ranges in order are in order
@@ -165,13 +165,13 @@ square-one u = ends-is (go (holdsZero (range u u)) refl) (omega (ints, max-parts
     go false e = omega (ints, min-parts (u *ℤ u) (u *ℤ u))
 
 -- ---- how many values a range has
-pub values-is : (r : Range) → r .low ≤ℤ r .high → values r + (P (r .low) + N (r .high)) ≡ P (r .high) + N (r .low) + 1
+pub values-is : (r : Range) → r .low ≤ℤ r .high → values r + (positivePart (r .low) + negativePart (r .high)) ≡ positivePart (r .high) + negativePart (r .low) + 1
 values-is r h =
     omega (ints, minus (r .high) (r .low), plus (r .high -ℤ r .low) (pos 1), apart (r .high -ℤ r .low +ℤ pos 1))
 
 -- one more than the ends are apart, which is at most 2M
-pub values-next : (r : Range) → r .low ≤ℤ r .high → values r ≡ P (r .high -ℤ r .low) + 1
+pub values-next : (r : Range) → r .low ≤ℤ r .high → values r ≡ positivePart (r .high -ℤ r .low) + 1
 values-next r h = omega (ints, values-is r h, minus (r .high) (r .low), apart (r .high -ℤ r .low))
 
-pub ends-apart : (r : Range) → Good r → P (r .high -ℤ r .low) ≤ 2_000_000_000_000
+pub ends-apart : (r : Range) → Good r → positivePart (r .high -ℤ r .low) ≤ 2_000_000_000_000
 ends-apart r g = omega (ints, minus (r .high) (r .low), apart (r .high -ℤ r .low))

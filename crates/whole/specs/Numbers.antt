@@ -19,13 +19,13 @@ pub record Near (z : ℤ) : Type 0 where
   pub high : z ≤ℤ M
 
 -- the positive and the negative part of a number, one of which is 0
-abbrev pub P : ℤ → ℕ
-P (pos n) = n
-P (negsuc n) = 0
+abbrev pub positivePart : ℤ → ℕ
+positivePart (pos n) = n
+positivePart (negsuc n) = 0
 
-abbrev pub N : ℤ → ℕ
-N (pos n) = 0
-N (negsuc n) = suc n
+abbrev pub negativePart : ℤ → ℕ
+negativePart (pos n) = 0
+negativePart (negsuc n) = suc n
 
 -- the smaller of two
 unfoldable pub minZ : ℤ → ℤ → ℤ

@@ -5,7 +5,7 @@ use mathlib.Core.Bool.{Bool, true, false, cond, _&&_}
 use Prim.Native.Nat.{ℕ}
 use lib.IntN.{ℤ, pos, _+ℤ_, _-ℤ_, _*ℤ_}
 use lib.Signed.{leZ, _≤ℤ_}
-use Rattle.whole.specs.Numbers.{P, minZ, maxZ, min4, max4}
+use Rattle.whole.specs.Numbers.{positivePart, minZ, maxZ, min4, max4}
 use Rattle.whole.specs.declared.Range.{Range}
 
 abbrev pub range : ℤ → ℤ → Range
@@ -22,7 +22,7 @@ Point = ℕ → ℤ
 
 -- how many values a range has
 abbrev pub values : Range → ℕ
-values r = P (r .high -ℤ r .low +ℤ pos 1)
+values r = positivePart (r .high -ℤ r .low +ℤ pos 1)
 
 -- 0 is in the range
 abbrev pub holdsZero : Range → Bool

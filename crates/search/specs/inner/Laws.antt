@@ -38,7 +38,7 @@ pub record Lawful (sweep : Box → Swept) (choose : Box → Open) (n lead : ℕ)
   pub leading : lead ≤ n
 
 -- for cover and none
-pub record Sound (sweep : Box → Swept) (n : ℕ) (start : Box) (Sat : Point → Type 0) : Type 0 where
+pub record Lossless (sweep : Box → Swept) (n : ℕ) (start : Box) (Sat : Point → Type 0) : Type 0 where
   pub keeps : (b : Box) → Part n start b → (p : Point) → Inside n p b → Sat p → Stays n p (sweep b)
 
 -- for floor, smallest and found

@@ -12,12 +12,12 @@ use Rattle.sheet.specs.Reading.{Read}
 use Rattle.sheet.specs.inner.Steps.{tokensFrom}
 use Rattle.sheet.specs.declared.Token.{Token}
 use Rattle.sheet.specs.declared.Sign.{Sign}
-use Rattle.translate.specs.Plain.{Asked, plainE, opposite}
-use Rattle.translate.specs.Translation.{Turn, first, second}
+use Rattle.meaning.specs.Plain.{Asked, plainE, opposite}
+use Rattle.meaning.specs.Translation.{Turn, first, second}
 use Rattle.translate.specs.inner.Emission.{emitted, Listing, listAll}
-use Rattle.translate.specs.declared.Tally.{Tally}
-use Rattle.translate.specs.declared.Listed.{Listed}
-use Rattle.translate.specs.declared.Listed.the-variants.{At, Not}
+use Rattle.translate.specs.declared.parts.Tally.{Tally}
+use Rattle.translate.specs.declared.parts.Listed.{Listed}
+use Rattle.translate.specs.declared.parts.Listed.the-variants.{At, Not}
 
 -- which clause
 abbrev pub turnOf : Bool → Turn

@@ -23,15 +23,15 @@ use Rattle.sheet.specs.Reading.{Read}
 use Rattle.sheet.specs.inner.Steps.{tokensFrom}
 use Rattle.sheet.specs.declared.Token.{Token}
 use Rattle.sheet.specs.declared.Sign.{Sign}
-use Rattle.translate.specs.Plain.{Operation, Tree, constant, quantity, binary, square, Asked, asksOf}
-use Rattle.translate.specs.Translation.{spanFor, equation, gapOf, first, second, literalsFor, equal}
-use Rattle.translate.specs.declared.Making.{Making}
-use Rattle.translate.specs.declared.Held.{Held}
-use Rattle.translate.specs.declared.Emitted.{Emitted}
-use Rattle.translate.specs.declared.Ruled.{Ruled}
-use Rattle.translate.specs.declared.Ruled.the-variants.{Done, Unread}
-use Rattle.translate.specs.declared.Made.{Made}
-use Rattle.translate.specs.declared.Made.the-variants.{At, Not}
+use Rattle.meaning.specs.Plain.{Operation, Tree, constant, quantity, binary, square, Asked, asksOf}
+use Rattle.meaning.specs.Translation.{spanFor, equation, gapOf, first, second, literalsFor, equal}
+use Rattle.translate.specs.declared.parts.Making.{Making}
+use Rattle.translate.specs.declared.parts.Held.{Held}
+use Rattle.translate.specs.declared.parts.Emitted.{Emitted}
+use Rattle.translate.specs.declared.parts.Ruled.{Ruled}
+use Rattle.translate.specs.declared.parts.Ruled.the-variants.{Done, Unread}
+use Rattle.translate.specs.declared.parts.Made.{Made}
+use Rattle.translate.specs.declared.parts.Made.the-variants.{At, Not}
 
 -- one more, up to the limit
 abbrev pub bump : ℕ → ℕ

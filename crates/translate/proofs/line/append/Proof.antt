@@ -3,7 +3,7 @@ use mathlib.Core.Path.{sym}
 use Prim.Native.Nat.{_*_}
 use lib.ListN.{length-set, length-take, length-drop}
 use lib.Seq.{length-take-le}
-use Rattle.translate.proofs.Appending.{append-one, append-two}
+use Rattle.translate.proofs.ClauseCode.{append-one, append-two}
 use native.Mathlib.Omega.{arith}
 use borrow.Author.Needs.{needs}
 use Rattle.translate.proofs.line.append.Statement.{statement}

@@ -5,7 +5,7 @@ use Prim.Native.Nat.{_+_, _-_, _≤_}
 use lib.ListN.{length}
 use borrow.Author.Needs.{needs}
 use Rattle.sheet.proofs.Places.{place-fits}
-use Rattle.translate.proofs.Walking.{Walking, walk-start, walk-done, walk-fault, walk-next}
+use Rattle.translate.proofs.WalkCode.{Walking, walk-start, walk-done, walk-fault, walk-next}
 use Rattle.translate.proofs.walk.read_lines.Statement.{statement}
 use Rattle.translate.proofs.walk.read_lines.Tie as tie
 
