@@ -5,7 +5,7 @@ use brute::problems::{self, Problem};
 use brute::random::Random;
 use brute::tree;
 use brute::{plain, sheets};
-use paper::Answer;
+use paper::{Answer, Translated};
 
 use crate::model;
 use crate::short;
@@ -34,6 +34,14 @@ pub struct Case {
     pub line: String,
     pub kind: Kind,
     pub changed: Vec<bool>,
+    pub lists: Option<Lists>,
+}
+
+/// The lists of a case's sheet: a line of their own in another data file, and
+/// for each slip whether it changes them.
+pub struct Lists {
+    pub line: String,
+    pub changed: Vec<bool>,
 }
 
 /// The problem of a seed, if it is fit to be kept.
@@ -57,7 +65,7 @@ pub fn problem(seed: u64) -> Option<Case> {
     let run = solved(&problem, budget);
     let line = problem_line(&problem, budget, &run);
     let changed = changes(&run, budget, usize::MAX, |_| problem.clone());
-    (line.len() <= MOST_BYTES).then(|| Case { line, kind: kind(&run.0), changed })
+    (line.len() <= MOST_BYTES).then(|| Case { line, kind: kind(&run.0), changed, lists: None })
 }
 
 /// The sheet of a seed, if it is fit to be kept.
@@ -66,21 +74,53 @@ pub fn sheet(seed: u64) -> Option<Case> {
     let is_short = !random.once_in(3);
     let lines = if is_short { short::sheet(&mut random) } else { sheets::small(&mut random) };
     let text = tree::text(&lines);
-    let lists = tree::predict(&lines).ok()?;
-    let problem = translation::problem(&lines, Slip::None);
-    let is_alike = (&problem.ranges, &problem.primitives, &problem.lengths, &problem.literals)
-        == (&lists.ranges, &lists.primitives, &lists.lengths, &lists.literals);
-    assert!(is_alike, "{text}the lists differ");
+    let (problem, names) = accepted(&text)?;
+    let translated = |slip| translation::problem(&lines, slip);
+    assert_eq!(problem, translated(Slip::None), "{text}");
     let room = 2 * problem.n() * (plain::depth(&problem) + 1);
     let (_, needed) = model::run(&problem, MOST_SWEEPS, Slip::None);
     if room > paper::DESK_WORKSPACE || needed == MOST_SWEEPS || text.len() > MOST_BYTES {
         return None;
     }
     let run = solved(&problem, paper::DESK_BUDGET);
-    let line = sheet_line(&text, &lists.names, &run);
-    let translated = |slip| translation::problem(&lines, slip);
-    let changed = changes(&run, paper::DESK_BUDGET, lists.names.len(), translated);
-    Some(Case { line, kind: kind(&run.0), changed })
+    let lists = Lists {
+        line: lists_line(&text, &problem, names.len()),
+        changed: ALL.iter().map(|&(slip, _)| translated(slip) != problem).collect(),
+    };
+    Some(Case {
+        line: sheet_line(&text, &names, &run),
+        kind: kind(&run.0),
+        changed: changes(&run, paper::DESK_BUDGET, names.len(), translated),
+        lists: Some(lists),
+    })
+}
+
+/// The problem and the names that the `paper` crate makes of a sheet, unless
+/// it is refused.
+fn accepted(text: &str) -> Option<(Problem, Vec<String>)> {
+    let mut ranges = vec![0; paper::FULL_RANGES];
+    let mut primitives = vec![0; paper::FULL_PRIMITIVES];
+    let mut lengths = vec![0; paper::FULL_LENGTHS];
+    let mut literals = vec![0; paper::FULL_LITERALS];
+    let mut names = vec![0; paper::FULL_NAMES];
+    let translated = paper::translate(
+        text.as_bytes(),
+        &mut ranges,
+        &mut primitives,
+        &mut lengths,
+        &mut literals,
+        &mut names,
+    );
+    let Translated::Accepted(counts) = translated else {
+        return None;
+    };
+    ranges.truncate(2 * counts.quantities);
+    primitives.truncate(4 * counts.primitives);
+    lengths.truncate(counts.clauses);
+    literals.truncate(3 * counts.literals);
+    let name = |name: &[u8]| String::from_utf8_lossy(name).trim_end().to_string();
+    let names = names.chunks(8).take(counts.declared).map(name).collect();
+    Some((Problem { ranges, primitives, lengths, literals }, names))
 }
 
 /// Puts a literal of a clause behind it once more.
@@ -169,7 +209,7 @@ fn problem_line(problem: &Problem, budget: i64, run: &Run) -> String {
         numbers.extend(list);
     }
     numbers.extend(values(&run.0));
-    numbers.iter().map(i64::to_string).collect::<Vec<_>>().join(" ")
+    spaced(&numbers)
 }
 
 /// The sheet, a bar, and what the desk prints, with a slash for each LF.
@@ -186,6 +226,23 @@ fn sheet_line(text: &str, names: &[String], run: &Run) -> String {
         .fold(shown, |shown, (name, value)| shown + &format!("{name} {value}\n"));
     assert_eq!(shown.as_bytes(), paper::answer(text.as_bytes()), "{text}");
     format!("{text}|{shown}").replace('\n', "/")
+}
+
+/// The sheet, a bar, 0, the counts of quantities, declared quantities,
+/// primitives, clauses and literals, and the four lists.
+fn lists_line(text: &str, problem: &Problem, declared: usize) -> String {
+    let Problem { ranges, primitives, lengths, literals } = problem;
+    let counts = [problem.n(), declared, primitives.len() / 4, lengths.len(), literals.len() / 3];
+    let mut numbers = vec![0];
+    numbers.extend(counts.map(|count| count as i64));
+    for list in [ranges, primitives, lengths, literals] {
+        numbers.extend(list);
+    }
+    text.replace('\n', "/") + "|" + &spaced(&numbers)
+}
+
+fn spaced(numbers: &[i64]) -> String {
+    numbers.iter().map(i64::to_string).collect::<Vec<_>>().join(" ")
 }
 
 #[cfg(test)]

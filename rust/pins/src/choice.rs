@@ -39,6 +39,6 @@ fn best(cases: &[Case], kept: &[Case], open: &[Quota]) -> Option<usize> {
 }
 
 /// How many cases each slip changes.
-pub fn counts(cases: &[Case]) -> Vec<usize> {
+fn counts(cases: &[Case]) -> Vec<usize> {
     (0..ALL.len()).map(|slip| cases.iter().filter(|case| case.changed[slip]).count()).collect()
 }
