@@ -3,8 +3,8 @@ use mathlib.Core.Path.{_≡_}
 use lib.ListN.{length}
 use Prim.Native.Nat.{_-_}
 use borrow.Author.Needs.{needs}
-use Rattle.examples.proofs.grounds.mark.Statement.{statement}
-use Rattle.examples.proofs.grounds.mark.Tie as tie
+use Rattle.refusals.proofs.translating.mark.Statement.{statement}
+use Rattle.refusals.proofs.translating.mark.Tie as tie
 
 abbrev Inv-loop : tie.InvT-loop
 Inv-loop names₀ i₀ i-end names i = length names ≡ length names₀

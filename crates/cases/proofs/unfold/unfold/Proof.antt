@@ -3,8 +3,8 @@ use mathlib.Core.Path.{_≡_}
 use lib.ListN.{length}
 use Prim.Native.Nat.{_-_}
 use borrow.Author.Needs.{needs}
-use Rattle.examples.proofs.unfold.unfold.Statement.{statement}
-use Rattle.examples.proofs.unfold.unfold.Tie as tie
+use Rattle.cases.proofs.unfold.unfold.Statement.{statement}
+use Rattle.cases.proofs.unfold.unfold.Tie as tie
 
 abbrev Inv-loop : tie.InvT-loop
 Inv-loop table from out₀ hand₀ i₀ out hand i = length out ≡ length out₀

@@ -3,16 +3,14 @@ use mathlib.Core.Path.{_≡_}
 use lib.ListN.{length}
 use Prim.Native.Nat.{_-_}
 use borrow.Author.Needs.{needs}
-use Rattle.examples.proofs.grounds.agreements.Statement.{statement}
-use Rattle.examples.proofs.grounds.agreements.Tie as tie
+use Rattle.refusals.proofs.lines.agreements.Statement.{statement}
+use Rattle.refusals.proofs.lines.agreements.Tie as tie
 
 abbrev Inv-loop : tie.InvT-loop
-Inv-loop table cases more ranges₀ primitives₀ lengths₀ literals₀ names₀ room₀ agreed₀ i₀ ranges primitives lengths literals names room agreed i =
-    (length ranges ≡ length ranges₀) × (length primitives ≡ length primitives₀) × (length lengths ≡ length lengths₀) × (length literals ≡ length literals₀) × (length names ≡ length names₀) × (length room ≡ length room₀)
+Inv-loop table cases room₀ agreed₀ i₀ room agreed i = (length room ≡ length room₀)
 
 abbrev μ-loop : tie.MeasureT-loop
-μ-loop table cases more ranges₀ primitives₀ lengths₀ literals₀ names₀ room₀ agreed₀ i₀ ranges primitives lengths literals names room agreed i =
-    cases - i
+μ-loop table cases room₀ agreed₀ i₀ room agreed i = cases - i
 
 loop-holds : tie.Need-loop-holds Inv-loop μ-loop
 loop-holds c = search needs
@@ -41,21 +39,6 @@ loop-again c = search needs
 same-length : tie.Need-same-length Inv-loop μ-loop
 same-length c = search needs
 
-same-length-2 : tie.Need-same-length-2 Inv-loop μ-loop
-same-length-2 c = search needs
-
-same-length-3 : tie.Need-same-length-3 Inv-loop μ-loop
-same-length-3 c = search needs
-
-same-length-4 : tie.Need-same-length-4 Inv-loop μ-loop
-same-length-4 c = search needs
-
-same-length-5 : tie.Need-same-length-5 Inv-loop μ-loop
-same-length-5 c = search needs
-
-same-length-6 : tie.Need-same-length-6 Inv-loop μ-loop
-same-length-6 c = search needs
-
 returns : tie.Need-returns Inv-loop μ-loop
 returns c = search needs
 
@@ -74,9 +57,4 @@ agreements-spec =
     loop-less
     loop-again
     same-length
-    same-length-2
-    same-length-3
-    same-length-4
-    same-length-5
-    same-length-6
     returns)

@@ -1,6 +1,6 @@
 // Texts as the data files write them: a slash stands for LF, a backslash and three digits for the byte with that code, and `{n ..}` for
 // what is in it n times over; there `@` stands for two letters, others in each turn. A text ends at a bar or at the end of its line.
-use cases::text;
+use crate::text;
 
 const BAR: usize = 124;
 
