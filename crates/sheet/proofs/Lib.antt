@@ -10,10 +10,10 @@ pub mod Declarations
 pub mod Depths
 pub mod Nesting
 pub mod Names
-pub mod Once
 pub mod Heads
 pub mod Spelling
 pub mod SpellingComparisons
 pub mod SpellingLines
 pub mod Truth
 pub mod Worked
+pub mod Promises

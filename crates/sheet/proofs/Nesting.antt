@@ -1,6 +1,6 @@
 -- A line that spells a tree is too deep exactly if the tree's brackets nest deeper than 16. Where a tree begins with o opened and c closed, its
 -- innermost bracket is the one with its depth more opened, and behind the tree as many were closed as opened.
-use mathlib.Core.Path.{_≡_, refl, sym, _∙_, ap}
+use mathlib.Core.Path.{_≡_, refl, sym}
 use mathlib.Core.Bool.{Bool, true, false, cond, true≢false}
 use mathlib.Core.List.{List, [], _∷_, _++_, append-assoc, append-nil}
 use mathlib.Core.Logic.{_↔_}
@@ -183,8 +183,8 @@ flat (when x xs d ds) =
     (joined (depthAll x xs) (depthAll d ds) (Fixed Then) ts us [] refl refl (nestAll And refl refl x xs (Fixed Then ∷ us)) (demands d ds))
 
 -- a line that spells a tree is too deep exactly if the tree's brackets nest deeper than 16
-pub deep-nested : (l : List ℕ) (x : Line) → tokensOf l ≡ spellLine x → (tooDeep (tokensOf l) ≡ true) ↔ (16 < depthLine x)
-deep-nested l x e = rw e (by (tooDeep (spellLine x)) (flat x))
+pub deep-exactly : (l : List ℕ) (x : Line) → tokensOf l ≡ spellLine x → (tooDeep (tokensOf l) ≡ true) ↔ (16 < depthLine x)
+deep-exactly l x e = rw e (by (tooDeep (spellLine x)) (flat x))
   where
     above : (b : Bool) → ltb 16 (depthLine x) ≡ b → (depthLine x ≤ 16 → ⊥) → 16 < depthLine x
     above true p h = ltb-true 16 (depthLine x) p

@@ -70,7 +70,7 @@ deepFrom o c (t ∷ ts) =
 abbrev pub tooDeep : List Token → Bool
 tooDeep ts = deepFrom 0 0 ts
 
--- ---- how deep the brackets of a tree nest. A line that is not too deep has no tree above 16: proofs/Nesting.antt
+-- ---- how deep the brackets of a tree nest; a line that spells it is too deep exactly above 16: Promises.antt
 unfoldable mutual
   pub depthE : Expr → ℕ
   depthE (one t) = depthT t

@@ -1,5 +1,5 @@
 -- The grammar of lines as trees, and how a tree is spelt in tokens: document 01, "Sheets". A line is of the forms exactly if it is the
--- spelling of a tree; that no line spells two is proved in proofs/SpellingLines.antt.
+-- spelling of a tree; that no line spells two stands in Promises.antt.
 use mathlib.Core.List.{List, [], _∷_, _++_}
 use Prim.Native.Nat.{ℕ, suc}
 use lib.IntN.{ℤ, pos, negsuc}

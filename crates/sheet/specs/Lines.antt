@@ -45,3 +45,7 @@ spanOf text k =
 -- a part of a lent text starts at this place of it
 abbrev pub startsAt : RefT (List ℕ) → ℕ → RefT (List ℕ) → Type 0
 startsAt text place part = (part .ptr .0 ≡ text .ptr .0) × (part .ptr .1 ≡ text .ptr .1 + place)
+
+-- a part of a lent text is line k of it: the line's bytes, at the place where they stand
+abbrev pub IsLineOf : RefT (List ℕ) → ℕ → RefT (List ℕ) → Type 0
+IsLineOf text k part = (part .now ≡ lineOf (text .now) k) × startsAt text (spanOf (text .now) k .start) part

@@ -1,5 +1,5 @@
--- Reading a line: the tree that its tokens spell, if there is one. That reading finds just the tree that is spelt is proved in
--- proofs/SpellingLines.antt. The number that each reading starts with bounds how deep it goes; `readLine` gives enough for every line.
+-- Reading a line: the tree that its tokens spell, if there is one. That reading finds just the tree that is spelt stands in Promises.antt.
+-- The number that each reading starts with bounds how deep it goes; `readLine` gives enough for every line.
 use mathlib.Core.Bool.{Bool, true, false, cond, _&&_, _||_}
 use mathlib.Core.List.{List, [], _∷_}
 use mathlib.Core.Option.{Option, none, some}
