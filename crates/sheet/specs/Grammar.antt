@@ -4,9 +4,10 @@ use mathlib.Core.List.{List, [], _∷_, _++_}
 use Prim.Native.Nat.{ℕ, suc}
 use lib.IntN.{ℤ, pos, negsuc}
 use Rattle.sheet.specs.declared.Mark.{Mark}
-use Rattle.sheet.specs.declared.Mark.the-variants.{Open, Close, Plus, Minus, Times, Square, AtMost, Below, AtLeast, Above, Equal, Differ, Range, Must, If, Then, And, Or}
+use Rattle.sheet.specs.declared.Mark.the-variants.{Open, Close, Plus, Minus, Times, Square, AtMost, Below, AtLeast, Above, Equal, Differ}
+use Rattle.sheet.specs.declared.Mark.the-variants.{Range, Must, If, Then, And, Or}
 use Rattle.sheet.specs.declared.Token.{Token}
-use Rattle.sheet.specs.declared.Token.the-variants.{Number, Negative, Name, Fixed, Bad}
+use Rattle.sheet.specs.declared.Token.the-variants.{Number, Negative, Name, Fixed}
 use Rattle.sheet.specs.declared.Sign.{Sign}
 use Rattle.sheet.specs.declared.Sign.the-variants as sign
 
