@@ -50,7 +50,7 @@ eqZ-refl : (a : ℤ) → T (eqZ a a)
 eqZ-refl (pos n) = eqb-refl n
 eqZ-refl (negsuc n) = eqb-refl n
 
-eqZ-right : (a b : ℤ) → T (eqZ a b) ↔ (a ≡ b)
+pub eqZ-right : (a b : ℤ) → T (eqZ a b) ↔ (a ≡ b)
 eqZ-right a b = (to a b, (λ e. rw (← e) (eqZ-refl a)))
   where
     to : (x y : ℤ) → T (eqZ x y) → x ≡ y
@@ -73,7 +73,7 @@ compares-right Differ a b = not-right (eqZ a b) (eqZ-right a b)
 pub is-right : (v : Assignment) (c : Comparison) → T (isRight v c) ↔ ComparisonHolds v c
 is-right v c = compares-right (c .sign) (valueE v (c .left)) (valueE v (c .right))
 
-and-right : (p q : Bool) → T (p && q) ↔ (T p × T q)
+pub and-right : (p q : Bool) → T (p && q) ↔ (T p × T q)
 and-right true q = ((λ h. (tt, h)), (λ h. h .1))
 and-right false q = ((λ h. absurd h), (λ h. h .0))
 
