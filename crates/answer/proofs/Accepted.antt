@@ -43,13 +43,13 @@ zeros-full =
 -- the counts and the fronts of the lists are those of the sheet that was read
 pub record Taken (t : List ℕ) (c : Counts) (rs ps ns ls : List ℤ) (bs : List ℕ) : Type 0 where
   pub draft : Draft
-  pub is : outcomeOf t ≡ read sheet
-  pub counts : c ≡ countsOf sheet
-  pub ranges : take (2 * c .quantities) rs ≡ rangeList (sheet .declared ++ sheet .made .ranges)
-  pub primitives : take (4 * c .primitives) ps ≡ primitiveList (sheet .made .primitives)
-  pub lengths : take (c .clauses) ns ≡ lengthList (sheet .made .clauses)
-  pub literals : take (3 * c .literals) ls ≡ literalList (literalsIn (sheet .made .clauses))
-  pub names : take (8 * c .declared) bs ≡ nameBytes (sheet .names)
+  pub is : outcomeOf t ≡ read draft
+  pub counts : c ≡ countsOf draft
+  pub ranges : take (2 * c .quantities) rs ≡ rangeList (draft .declared ++ draft .made .ranges)
+  pub primitives : take (4 * c .primitives) ps ≡ primitiveList (draft .made .primitives)
+  pub lengths : take (c .clauses) ns ≡ lengthList (draft .made .clauses)
+  pub literals : take (3 * c .literals) ls ≡ literalList (literalsIn (draft .made .clauses))
+  pub names : take (8 * c .declared) bs ≡ nameBytes (draft .names)
 
 -- the filled front
 front : {A : Type 0} (new old l : List A) (n : ℕ) → l ≡ filled new old → length new ≡ n → take n l ≡ new
