@@ -12,7 +12,8 @@ use Rattle.whole.specs.Ranges.{Point, In, range}
 use Rattle.whole.specs.declared.Range.{Range}
 use Rattle.problem.specs.Problem.{Box, lowAt, highAt, rangeAt, Inside}
 use Rattle.narrow.specs.Cuts.{meetOf, putAt, Swept, empty, changed, unchanged, cutTo, cutOf, Cut, stay, void, to, act}
-use Rattle.narrow.proofs.Boxes.{put-long, low-or, high-or, put-low, put-high, low-none, high-none, Within, Smaller, Less}
+use Rattle.narrow.specs.Parts.{Smaller}
+use Rattle.narrow.proofs.Boxes.{put-long, low-or, high-or, put-low, put-high, low-none, high-none, Within, Less}
 
 -- ---- what a step asks changes nothing
 abbrev pub Quiet : Box → Cut → Type 0
@@ -69,20 +70,6 @@ pub act-is : (k : Cut) (b : Box) → Outcome b (Quiet b k) (act k b)
 act-is stay b = rests tt
 act-is void b = ends
 act-is (to q s) b = cut-is q s b
-
--- a quiet step leaves the box, as far as no range is empty
-pub quiet-act : (k : Cut) (b : Box) → ((q : ℕ) → lowAt b q ≤ℤ highAt b q) → Quiet b k → act k b ≡ unchanged b
-unfolding cutOf cutTo
-quiet-act stay b f h = refl
-quiet-act void b f h = absurd h
-quiet-act (to q s) b f h =
-    let i = f q in
-    let lo = max-parts (lowAt b q) (s .low) in
-    let hi = min-parts (highAt b q) (s .high) in
-    let e : ltZ (newAt b q s .high) (newAt b q s .low) ≡ false = omega ints in
-    let g : ltZ (lowAt b q) (newAt b q s .low) ≡ false = omega ints in
-    let k : ltZ (newAt b q s .high) (highAt b q) ≡ false = omega ints in
-    rw (e, g, k)
 
 -- a quiet cut to one value, of a range of one value: it is that value
 pub quiet-value : (b : Box) (q : ℕ) (s : Range) (v : ℤ) → lowAt b q ≡ highAt b q → s ≡ range v v → Quiet b (to q s) → lowAt b q ≡ v

@@ -57,10 +57,6 @@ module _ (q : ℕ) (old new : Range) (b : Box) where
       rw (e, f, g)
 
 -- ---- spans that cut alike
-pub cut-alike : (q : ℕ) (s t : Range) (b : Box) → meetOf (rangeAt b q) s ≡ meetOf (rangeAt b q) t → cutOf q s b ≡ cutOf q t b
-unfolding cutOf
-cut-alike q s t b e = ap (λ (n : Range). cutTo q (rangeAt b q) n b) e
-
 pub cut-held : (q : ℕ) (s : Range) (b : Box) → Good (rangeAt b q) → cutOf q (heldSpan s) b ≡ cutOf q s b
 unfolding cutOf
 cut-held q s b g = go (meeting (rangeAt b q) s g)
@@ -167,10 +163,6 @@ module _ (st : Step) {q : ℕ} {s t : Range} {p r : Status} {b b′ : Box} (e : 
   -- or held
   pub done-held : Good (rangeAt b q) → s ≡ heldSpan t → Done (st ∷ []) p b r b′
   done-held g f = done-by (ap (λ (x : Range). cutOf q x b) f ∙ cut-held q t b g)
-
-  -- or one that has the same in common with the old range
-  pub done-meet : meetOf (rangeAt b q) s ≡ meetOf (rangeAt b q) t → Done (st ∷ []) p b r b′
-  done-meet f = done-by (cut-alike q s t b f)
 
 pub done-stay : (st : Step) (p : Status) (b : Box) → Fine b → st b ≡ stay → Done (st ∷ []) p b p b
 done-stay st p b f e = record { says = all p ∙ next-at st stay p b e; fine = f }

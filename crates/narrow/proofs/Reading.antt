@@ -18,8 +18,9 @@ use Rattle.problem.specs.declared.Literal.the-variants.{AtMost, AtLeast}
 use Rattle.problem.proofs.Lists.{literals-at, literals-end}
 use Rattle.narrow.specs.Cuts.{empty, void, to, next}
 use Rattle.narrow.specs.Narrowing.{isFalse, openOf, literalCut, unitCut, clauseStep}
+use Rattle.narrow.specs.Named.{quantityOf}
 use Rattle.narrow.specs.inner.Done.{Has, Fine, sweptAs, Done}
-use Rattle.narrow.specs.inner.Clause.{quantityOf, askedOf, Lits}
+use Rattle.narrow.specs.inner.Clause.{askedOf, Lits}
 use Rattle.narrow.specs.declared.Status.{Status}
 use Rattle.narrow.specs.declared.Status.the-variants.{Empty, Changed, Same}
 use Rattle.narrow.proofs.Cutting.{next-at, done-span, done-stay}

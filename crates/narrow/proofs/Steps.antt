@@ -1,15 +1,14 @@
 -- Any list of steps: each starts from the box that the one before it left, so what every cut does, they do together.
-use mathlib.Core.Path.{_≡_, refl, ap, _∙_}
+use mathlib.Core.Path.{_≡_, refl}
 use mathlib.Core.List.{List, [], _∷_, _++_}
 use Prim.Native.Nat.{ℕ}
 use native.Mathlib.Omega.{arith}
-use lib.Signed.{_≤ℤ_}
 use Rattle.whole.specs.Lists.{AllOf}
 use Rattle.whole.specs.Ranges.{Point}
-use Rattle.problem.specs.Problem.{Box, lowAt, highAt, Inside}
+use Rattle.problem.specs.Problem.{Box, Inside}
 use Rattle.narrow.specs.Cuts.{Swept, empty, changed, unchanged, Step, act, marked, next, steps}
 use Rattle.narrow.proofs.Boxes.{Within, within-trans, Less, smaller-within}
-use Rattle.narrow.proofs.Cuts.{Quiet, Outcome, ends, moves, rests, act-is, quiet-act, Allows, Keeps, act-keeps}
+use Rattle.narrow.proofs.Cuts.{Quiet, Outcome, ends, moves, rests, act-is, Allows, Keeps, act-keeps}
 
 -- ---- nothing follows an empty range, and steps go on from where the others ended
 pub steps-empty : (ss : List Step) → steps empty ss ≡ empty
@@ -62,11 +61,6 @@ unchanged-same ss b b′ e = rested (steps-are ss b) e .0
 
 pub unchanged-quiet : (ss : List Step) (b b′ : Box) → steps (unchanged b) ss ≡ unchanged b′ → AllQuiet b ss
 unchanged-quiet ss b b′ e = rested (steps-are ss b) e .1
-
--- and if every step is, as far as no range is empty
-pub quiet-unchanged : (ss : List Step) (b : Box) → ((q : ℕ) → lowAt b q ≤ℤ highAt b q) → AllQuiet b ss → steps (unchanged b) ss ≡ unchanged b
-quiet-unchanged [] b f h = refl
-quiet-unchanged (s ∷ ss) b f h = ap (λ (r : Swept). steps r ss) (quiet-act (s b) b f (h .0)) ∙ quiet-unchanged ss b f (h .1)
 
 -- ---- a box that changed
 changed-to : {b b′ : Box} {Q : Type 0} {r : Swept} → Outcome b Q r → r ≡ changed b′ → Within b b′ × Less b b′

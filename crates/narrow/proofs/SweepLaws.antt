@@ -1,5 +1,5 @@
 -- A sweep is one list of steps, so it has the laws of steps: each primitive and each clause gives its own part of the list.
-use mathlib.Core.Path.{_≡_, refl, ap}
+use mathlib.Core.Path.{_≡_}
 use mathlib.Core.List.{List, map}
 use Prim.Native.Nat.{ℕ, _*_, _<_}
 use native.Mathlib.Decide.{decLt}
@@ -15,22 +15,16 @@ use Rattle.problem.specs.declared.Literal.{Literal}
 use Rattle.narrow.specs.Cuts.{Swept, empty, changed, unchanged, steps}
 use Rattle.narrow.specs.Narrowing.{clauseStep}
 use Rattle.narrow.specs.Sweep.{allSteps, sweepSteps, sweepOf}
-use Rattle.narrow.proofs.Boxes.{low-none, high-none, Single, Smaller}
+use Rattle.narrow.specs.Parts.{Part, Smaller}
+use Rattle.narrow.specs.Named.{SitedAll, PlacedAll}
+use Rattle.narrow.proofs.Boxes.{low-none, high-none, Single}
 use Rattle.narrow.proofs.Constraints.{primitives-sound, clauses-sound, primitives-point, clauses-point}
 use Rattle.narrow.proofs.Cuts.{Keeps}
 use Rattle.narrow.proofs.Lists.{both, left, right}
-use Rattle.narrow.proofs.Sites.{SitedAll, PlacedAll}
-use Rattle.narrow.proofs.Steps.{QuietAt, AllQuiet, unchanged-same, unchanged-quiet, quiet-unchanged, changed-within, changed-less, LosesNone, steps-keep}
+use Rattle.narrow.proofs.Steps.{QuietAt, AllQuiet, unchanged-same, unchanged-quiet, changed-within, changed-less, LosesNone, steps-keep}
 
 -- ---- a box of n ranges reads as 0 beyond them
 module _ (n : ℕ) (b : Box) (long : length b ≡ 2 * n) where
-  filled-all : ((q : ℕ) → q < n → lowAt b q ≤ℤ highAt b q) → (q : ℕ) → lowAt b q ≤ℤ highAt b q
-  filled-all f q = go (decLt q n)
-    where
-      go : Dec (q < n) → lowAt b q ≤ℤ highAt b q
-      go (yes h) = f q h
-      go (no h) = omega (ints, low-none b q (omega arith), high-none b q (omega arith))
-
   single-all : ((q : ℕ) → q < n → lowAt b q ≡ highAt b q) → Single b
   single-all f q = go (decLt q n)
     where
@@ -39,15 +33,8 @@ module _ (n : ℕ) (b : Box) (long : length b ≡ 2 * n) where
       go (no h) = omega (ints, low-none b q (omega arith), high-none b q (omega arith))
 
 -- ---- a changed box
--- b has n ranges, none of them empty, each inside that of a
-pub record Narrower (n : ℕ) (a b : Box) : Type 0 where
-  pub long : length b ≡ 2 * n
-  pub low : (q : ℕ) → q < n → lowAt a q ≤ℤ lowAt b q
-  pub filled : (q : ℕ) → q < n → lowAt b q ≤ℤ highAt b q
-  pub high : (q : ℕ) → q < n → highAt b q ≤ℤ highAt a q
-
 module _ (n : ℕ) (ps : List Primitive) (cs : List (List Literal)) (b : Box) (long : length b ≡ 2 * n) where
-  pub sweep-shrinks : ((q : ℕ) → q < n → lowAt b q ≤ℤ highAt b q) → (b′ : Box) → sweepOf ps cs b ≡ changed b′ → Narrower n b b′
+  pub sweep-shrinks : ((q : ℕ) → q < n → lowAt b q ≤ℤ highAt b q) → (b′ : Box) → sweepOf ps cs b ≡ changed b′ → Part n b b′
   unfolding sweepOf
   sweep-shrinks f b′ e =
       let w = changed-within (sweepSteps ps cs) b b′ e in
@@ -57,11 +44,7 @@ module _ (n : ℕ) (ps : List Primitive) (cs : List (List Literal)) (b : Box) (l
   unfolding sweepOf
   sweep-smaller b′ e = changed-less (sweepSteps ps cs) b b′ e n long
 
-  -- ---- unchanged exactly if every step is quiet
-  pub quiet-sweep : ((q : ℕ) → q < n → lowAt b q ≤ℤ highAt b q) → AllQuiet b (sweepSteps ps cs) → sweepOf ps cs b ≡ unchanged b
-  unfolding sweepOf
-  quiet-sweep f h = quiet-unchanged (sweepSteps ps cs) b (filled-all n b long f) h
-
+-- ---- unchanged only if every step is quiet
 module _ (ps : List Primitive) (cs : List (List Literal)) (b b′ : Box) (e : sweepOf ps cs b ≡ unchanged b′) where
   pub sweep-quiet : AllQuiet b (sweepSteps ps cs)
   unfolding sweepOf

@@ -20,13 +20,14 @@ use Rattle.problem.proofs.Lists.{primitives-at, primitives-end, literals-take, 
 use Rattle.problem.proofs.Placing.{PrimitivePlaced, primitive-placed, LiteralPlaced, literal-placed, literals-clear, literals-clear-to, listed, Left, left-start, left-room, left-on, clauses-at}
 use Rattle.narrow.specs.Cuts.{Swept, Step, steps}
 use Rattle.narrow.specs.Narrowing.{primitiveSteps, clauseStep}
+use Rattle.narrow.specs.Named.{quantityOf}
 use Rattle.narrow.specs.Sweep.{allSteps, sweepSteps, sweepOf}
 use Rattle.narrow.specs.inner.Done.{Has, Sited, Fine, sweptAs, Done, Sweeps}
-use Rattle.narrow.specs.inner.Clause.{quantityOf, Lits}
+use Rattle.narrow.specs.inner.Clause.{Lits}
 use Rattle.narrow.specs.declared.Status.{Status}
-use Rattle.narrow.specs.declared.Status.the-variants.{Empty, Changed, Same}
+use Rattle.narrow.specs.declared.Status.the-variants.{Empty, Same}
 use Rattle.narrow.proofs.Cutting.{done-then, done-ended}
-use Rattle.narrow.proofs.Steps.{steps-append, steps-empty, unchanged-same}
+use Rattle.narrow.proofs.Steps.{steps-append, steps-empty}
 
 -- ---- some of the steps done
 pub record Going (all rest : List Step) (r₀ : Status) (b₀ : Box) (r : Status) (b : Box) : Type 0 where
@@ -147,11 +148,7 @@ module _ {n : ℕ} {ns ls : List ℤ} {i from : ℕ} (a : Ahead n ns ls i from) 
 -- ---- a whole sweep
 sweep-done : {ps : List Primitive} {cs : List (List Literal)} {b₀ b : Box} {r : Status} → Done (sweepSteps ps cs) Same b₀ r b → Sweeps ps cs b₀ r b
 unfolding sweepOf
-sweep-done {ps} {cs} {b₀} {b} {r} d = record {
-  says = d .says;
-  kept = λ e. unchanged-same (sweepSteps ps cs) b₀ b (sym (d .says) ∙ ap (λ (x : Status). sweptAs x b) e);
-  fine = d .fine;
-}
+sweep-done d = record { says = d .says; fine = d .fine }
 
 -- the primitives left an empty range, or the clauses followed
 module _ {ps : List Primitive} {cs : List (List Literal)} {b₀ b : Box} {r : Status} (d : Done (allSteps ps) Same b₀ r b) where

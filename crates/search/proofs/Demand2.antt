@@ -10,9 +10,10 @@ use Rattle.whole.specs.Ranges.{Point}
 use Rattle.problem.specs.Problem.{Box, lowAt, Inside}
 use Rattle.problem.specs.Order.{Before}
 use Rattle.narrow.specs.Cuts.{Swept, empty, changed, unchanged}
+use Rattle.narrow.specs.Parts.{Part}
 use Rattle.search.specs.Search.{lowerPart, upperPart, Outcome, stopped, found, none, run}
 use Rattle.search.specs.Depth.{depth}
-use Rattle.search.specs.inner.Laws.{Part, Lawful, Lossless, Ordered}
+use Rattle.search.specs.inner.Laws.{Lawful, Lossless, Ordered}
 use Rattle.search.specs.declared.Open.{Open}
 use Rattle.search.specs.declared.Open.the-variants.{At}
 use Rattle.search.proofs.Splits.{Splits, part-self, part-trans, in-part, lows-in, lower-part, upper-part, halves-all, halves-order}

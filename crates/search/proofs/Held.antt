@@ -12,9 +12,10 @@ use lib.IntN.{ℤ}
 use borrow.Rule.Slice.PartMut.{midOf, putMid, same-len-mid, mid-len, drop-put, put-same}
 use Rattle.problem.specs.Problem.{Box}
 use Rattle.narrow.specs.Cuts.{Swept, empty, changed, unchanged}
+use Rattle.narrow.specs.Parts.{Part}
 use Rattle.search.specs.Search.{lowerPart, upperPart, Outcome, stopped, found, none, run}
 use Rattle.search.specs.Depth.{depth}
-use Rattle.search.specs.inner.Laws.{Part, Lawful}
+use Rattle.search.specs.inner.Laws.{Lawful}
 use Rattle.search.specs.declared.Open.{Open}
 use Rattle.search.specs.declared.Open.the-variants.{At, Closed}
 use Rattle.search.proofs.Splits.{Splits}

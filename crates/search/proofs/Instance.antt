@@ -22,11 +22,11 @@ use Rattle.problem.proofs.Placing.{present}
 use Rattle.problem.proofs.Tests.{or-first, or-second}
 use Rattle.narrow.specs.Cuts.{Swept, empty, changed, unchanged}
 use Rattle.narrow.specs.Sweep.{sweepOf}
-use Rattle.narrow.specs.inner.Clause.{quantityOf}
-use Rattle.narrow.proofs.Sites.{SitedIn, SitedAll, PlacedIn, PlacedAll}
+use Rattle.narrow.specs.Named.{quantityOf, SitedIn, SitedAll, PlacedIn, PlacedAll}
 use Rattle.narrow.proofs.SweepLaws.{sweep-shrinks, sweep-settled, sweep-some, sweep-inside}
+use Rattle.narrow.specs.Parts.{Part}
 use Rattle.search.specs.Search.{lowest}
-use Rattle.search.specs.inner.Laws.{Part, Shrinks, Stays, Lawful, Lossless, Ordered}
+use Rattle.search.specs.inner.Laws.{Shrinks, Stays, Lawful, Lossless, Ordered}
 use Rattle.search.specs.inner.Ready.{Started}
 use Rattle.search.proofs.Splits.{part-self}
 use Rattle.search.proofs.Choice.{lowest-leads, lowest-wide, lowest-first, lowest-closed}
@@ -108,7 +108,7 @@ module _ (rs ps ns ls : List ℤ) (j : Judges rs ps ns ls) where
     where
       by : (s : Swept) → sweepOf prims clauses b ≡ s → Shrinks n b s
       by empty e = tt
-      by (changed c) e = let w = sweep-shrinks n prims clauses b (f .long) (f .filled) c e in record { long = w .long; low = w .low; filled = w .filled; high = w .high }
+      by (changed c) e = sweep-shrinks n prims clauses b (f .long) (f .filled) c e
       by (unchanged c) e = tt
 
   keeps : (b : Box) → Part n rs b → (p : Point) → Inside n p b → Meets prims clauses p → Stays n p (sweepOf prims clauses b)

@@ -5,10 +5,14 @@ use Prim.Native.Nat.{ℕ, zero, suc, _+_, _-_, _≤_, _<_}
 use native.Mathlib.Nat.{zero-add, suc-add}
 use native.Mathlib.Decide.{decLe}
 use native.Mathlib.Omega.{arith}
+use lib.IntN.{ℤ}
 use Rattle.problem.specs.Problem.{Box}
 use Rattle.narrow.specs.Cuts.{Swept, empty, changed, unchanged}
 use Rattle.search.specs.Search.{lowerPart, upperPart, Next, go, out, end, step, run, Outcome, stopped, found, none}
+use Rattle.search.specs.Solve.{answered, pointOf}
 use Rattle.search.specs.Demand2.{Decides}
+use Rattle.search.specs.declared.Answer.the-variants as answer
+use Rattle.search.specs.declared.Solved.{Solved}
 use Rattle.search.specs.declared.Open.{Open}
 use Rattle.search.specs.declared.Open.the-variants.{At, Closed}
 
@@ -28,6 +32,22 @@ abbrev pub counted : ℕ → Outcome → Outcome
 counted budget (stopped c ws) = stopped c ws
 counted budget (found c ws left) = found c ws (budget - left)
 counted budget (none left) = none (budget - left)
+
+-- the result and the point of an outcome, by its count
+abbrev solvedAs : Outcome → Solved
+solvedAs (stopped c ws) = record { answer = answer.Stopped; sweeps = 0 }
+solvedAs (found c ws used) = record { answer = answer.Found; sweeps = used }
+solvedAs (none used) = record { answer = answer.None; sweeps = used }
+
+answered-counted : (k : ℕ) (o : Outcome) → Decides o → answered k o ≡ solvedAs (counted k o)
+answered-counted k (stopped c ws) e = absurd e
+answered-counted k (found c ws left) e = refl
+answered-counted k (none left) e = refl
+
+point-counted : (k : ℕ) (o : Outcome) (p : List ℤ) → pointOf o p ≡ pointOf (counted k o) p
+point-counted k (stopped c ws) p = refl
+point-counted k (found c ws left) p = refl
+point-counted k (none left) p = refl
 
 module _ (sweep : Box → Swept) (choose : Box → Open) where
   module _ (k : ℕ) (c : Box) (ws : List Box) where
@@ -158,6 +178,15 @@ module _ (sweep : Box → Swept) (choose : Box → Open) where
         by m (stopped c ws) e lt = absurd e
         by m (found c ws left) e lt = ap (found c ws) (omega arith)
         by m (none left) e lt = ap none (omega arith)
+
+    -- and so the same result and the same point
+    pub steady-answer : (k l : ℕ) → k ≤ l → Decides (run sweep choose k c ws) → answered l (run sweep choose l c ws) ≡ answered k (run sweep choose k c ws)
+    steady-answer k l h e =
+        answered-counted l (run sweep choose l c ws) (decides-on k l h e) ∙ ap solvedAs (steady k l h e) ∙ sym (answered-counted k (run sweep choose k c ws) e)
+
+    pub steady-point : (k l : ℕ) → k ≤ l → Decides (run sweep choose k c ws) → (p : List ℤ) → pointOf (run sweep choose l c ws) p ≡ pointOf (run sweep choose k c ws) p
+    steady-point k l h e p =
+        point-counted l (run sweep choose l c ws) p ∙ ap (λ (o : Outcome). pointOf o p) (steady k l h e) ∙ sym (point-counted k (run sweep choose k c ws) p)
 
     used-is : (k : ℕ) (o : Outcome) → Decides o → leftOf (counted k o) ≡ k - leftOf o
     used-is k (stopped c ws) e = absurd e

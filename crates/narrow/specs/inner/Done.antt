@@ -51,8 +51,7 @@ pub record Done (ss : List Step) (r₀ : Status) (b₀ : Box) (r : Status) (b : 
   pub says : sweptAs r b ≡ steps (sweptAs r₀ b₀) ss
   pub fine : Fine b
 
--- a sweep done: what it comes to; a box in which nothing changed is as it was; and every box stays fine
+-- a sweep done: what it comes to, and that the box stays fine
 pub record Sweeps (ps : List Primitive) (cs : List (List Literal)) (b₀ : Box) (r : Status) (b : Box) : Type 0 where
   pub says : sweptAs r b ≡ sweepOf ps cs b₀
-  pub kept : r ≡ Same → b ≡ b₀
   pub fine : Fine b
