@@ -12,7 +12,7 @@ use Rattle.problem.specs.declared.Judged.the-variants.{Sound}
 use Rattle.search.specs.Solve.{judged, Solves}
 use Rattle.search.specs.Demand2.{Right, Smallest, NoneBefore, pointAt}
 use Rattle.search.specs.declared.Solved.{Solved}
-use Rattle.search.proofs.Promise.{solve-right}
+use Rattle.search.proofs.Answered.{sound-right}
 use Rattle.sheet.specs.Grammar.{Line}
 use Rattle.meaning.specs.Lists.{rangeList, primitiveList, lengthList, literalsIn, literalList}
 use Rattle.meaning.specs.Draft.{Draft, quantitiesIn, problemIn}
@@ -55,4 +55,4 @@ pub sheet-answer : (t : List ℕ) (s : Draft) → outcomeOf t ≡ read s
     → (ls : List Line) × Spells t ls × Means 1_000_000 ls (s .names) (r .answer) p
 sheet-answer t s e solves sound =
     let d = demand3.demand3 t s e in
-    (d .0, d .1, means t s e (d .0) (d .2) (rw (read-back s) at (solve-right solves sound)))
+    (d .0, d .1, means t s e (d .0) (d .2) (rw (read-back s) at (sound-right solves sound)))

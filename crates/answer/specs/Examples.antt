@@ -12,7 +12,7 @@ use Rattle.problem.specs.Problem.{Box, quantities}
 use Rattle.problem.specs.Grounds.{differ, anyNegative, total, badRanges, badPrimitives, badLiterals, judgeOf}
 use Rattle.problem.specs.declared.Primitive.{Primitive}
 use Rattle.problem.specs.declared.Primitive.the-variants.{Sum, Product, Square}
-use Rattle.narrow.specs.Cuts.{Result, gone, moved, still, steps, cutTo, cutOf}
+use Rattle.narrow.specs.Cuts.{Swept, empty, changed, unchanged, steps, cutTo, cutOf}
 use Rattle.narrow.specs.Narrowing.{primitiveSteps, openOf}
 use Rattle.narrow.specs.Sweep.{allSteps, sweepOf}
 use Rattle.search.specs.Search.{Outcome, stopped, found, none, lowerPart, upperPart, searchOf, step, run, openFrom}
@@ -47,16 +47,16 @@ sameBytes [] (b ∷ bs) = false
 sameBytes (a ∷ xs) [] = false
 sameBytes (a ∷ xs) (b ∷ bs) = eqb a b && sameBytes xs bs
 
-abbrev pub sameResult : Result → Result → Bool
-sameResult gone gone = true
-sameResult gone (moved b) = false
-sameResult gone (still b) = false
-sameResult (moved a) gone = false
-sameResult (moved a) (moved b) = sameList a b
-sameResult (moved a) (still b) = false
-sameResult (still a) gone = false
-sameResult (still a) (moved b) = false
-sameResult (still a) (still b) = sameList a b
+abbrev pub sameSwept : Swept → Swept → Bool
+sameSwept empty empty = true
+sameSwept empty (changed b) = false
+sameSwept empty (unchanged b) = false
+sameSwept (changed a) empty = false
+sameSwept (changed a) (changed b) = sameList a b
+sameSwept (changed a) (unchanged b) = false
+sameSwept (unchanged a) empty = false
+sameSwept (unchanged a) (changed b) = false
+sameSwept (unchanged a) (unchanged b) = sameList a b
 
 abbrev pub rank : Answer → ℕ
 rank answer.None = 0
@@ -70,7 +70,7 @@ sameAnswer a b = eqb (rank a) (rank b)
 -- ---- cases
 pub data Case : Type 0 where
   -- a primitive narrows a box to this
-  narrows : Primitive → Box → Result → Case
+  narrows : Primitive → Box → Swept → Case
   -- a box is split at a quantity into these two
   splits : Box → ℕ → Box → Box → Case
   -- a sheet with a budget: the answer, the sweeps, and the values of the declared quantities
@@ -92,7 +92,7 @@ solvedTo a k values declared budget o =
     sameAnswer (r .answer) a && (eqb (r .sweeps) k && sameList (take declared (pointOf o [])) values)
 
 abbrev pub passes : Case → Bool
-passes (narrows p b r) = sameResult (steps (still b) (primitiveSteps p)) r
+passes (narrows p b r) = sameSwept (steps (unchanged b) (primitiveSteps p)) r
 passes (splits b q lower upper) = sameList (lowerPart b q) lower && sameList (upperPart b q) upper
 passes (answers t budget a k values) =
     sheetPasses (λ s. solvedTo a k values (length (s .names)) budget (searchOf (problemIn s) budget)) (grounds.outcomeOf (bytes t))
@@ -145,14 +145,14 @@ examples =
     ∷ answers third-sheet 5 answer.Stopped 5 (pos 0 ∷ pos 2 ∷ [])
     ∷ answers third-sheet 0 answer.Stopped 0 (pos 0 ∷ pos 0 ∷ [])
     -- P6, P7, P8
-    ∷ narrows (Product 0 1 2) (pos 7 ∷ pos 9 ∷ negsuc 99 ∷ pos 100 ∷ pos 2 ∷ pos 2 ∷ []) (moved (pos 7 ∷ pos 9 ∷ pos 4 ∷ pos 4 ∷ pos 2 ∷ pos 2 ∷ []))
-    ∷ narrows (Product 0 1 2) (negsuc 8 ∷ negsuc 6 ∷ negsuc 99 ∷ pos 100 ∷ pos 2 ∷ pos 2 ∷ []) (moved (negsuc 8 ∷ negsuc 6 ∷ negsuc 3 ∷ negsuc 3 ∷ pos 2 ∷ pos 2 ∷ []))
-    ∷ narrows (Product 0 1 2) (pos 7 ∷ pos 7 ∷ negsuc 99 ∷ pos 100 ∷ pos 2 ∷ pos 2 ∷ []) gone
+    ∷ narrows (Product 0 1 2) (pos 7 ∷ pos 9 ∷ negsuc 99 ∷ pos 100 ∷ pos 2 ∷ pos 2 ∷ []) (changed (pos 7 ∷ pos 9 ∷ pos 4 ∷ pos 4 ∷ pos 2 ∷ pos 2 ∷ []))
+    ∷ narrows (Product 0 1 2) (negsuc 8 ∷ negsuc 6 ∷ negsuc 99 ∷ pos 100 ∷ pos 2 ∷ pos 2 ∷ []) (changed (negsuc 8 ∷ negsuc 6 ∷ negsuc 3 ∷ negsuc 3 ∷ pos 2 ∷ pos 2 ∷ []))
+    ∷ narrows (Product 0 1 2) (pos 7 ∷ pos 7 ∷ negsuc 99 ∷ pos 100 ∷ pos 2 ∷ pos 2 ∷ []) empty
     -- P9, P10
-    ∷ narrows (Square 0 1) (pos 5 ∷ pos 30 ∷ pos 0 ∷ pos 10 ∷ []) (moved (pos 5 ∷ pos 30 ∷ pos 3 ∷ pos 5 ∷ []))
-    ∷ narrows (Square 0 1) (pos 5 ∷ pos 30 ∷ negsuc 9 ∷ pos 10 ∷ []) (moved (pos 5 ∷ pos 30 ∷ negsuc 4 ∷ pos 5 ∷ []))
+    ∷ narrows (Square 0 1) (pos 5 ∷ pos 30 ∷ pos 0 ∷ pos 10 ∷ []) (changed (pos 5 ∷ pos 30 ∷ pos 3 ∷ pos 5 ∷ []))
+    ∷ narrows (Square 0 1) (pos 5 ∷ pos 30 ∷ negsuc 9 ∷ pos 10 ∷ []) (changed (pos 5 ∷ pos 30 ∷ negsuc 4 ∷ pos 5 ∷ []))
     -- P11
-    ∷ narrows (Product 0 1 2) (pos 0 ∷ M ∷ M ∷ M ∷ M ∷ M ∷ []) gone
+    ∷ narrows (Product 0 1 2) (pos 0 ∷ M ∷ M ∷ M ∷ M ∷ M ∷ []) empty
     -- P12
     ∷ splits (negsuc 0 ∷ pos 0 ∷ []) 0 (negsuc 0 ∷ negsuc 0 ∷ []) (pos 0 ∷ pos 0 ∷ [])
     -- a whole translation with every sign and operation

@@ -5,16 +5,15 @@ use mathlib.Core.List.{List, [], _∷_}
 use mathlib.Core.Bool.{Bool, true, false, cond}
 use Prim.Native.Nat.{ℕ, _<_}
 use Rattle.whole.proofs.Kit.{ints}
-use Rattle.whole.specs.Lists.{AllOf, OneOf}
+use Rattle.whole.specs.Lists.{OneOf}
 use Rattle.whole.specs.Ranges.{Point}
 use Rattle.problem.specs.Problem.{Box, lowAt, Inside, True}
 use Rattle.problem.specs.declared.Literal.{Literal}
 use Rattle.problem.specs.declared.Literal.the-variants.{AtMost, AtLeast}
 use Rattle.narrow.specs.Narrowing.{isFalse, openOf, literalCut, unitCut, clauseStep}
-use Rattle.narrow.specs.inner.Clause.{quantityOf}
+use Rattle.narrow.specs.Named.{quantityOf, PlacedIn}
 use Rattle.narrow.proofs.Boxes.{Single}
 use Rattle.narrow.proofs.Cuts.{Quiet, Allows}
-use Rattle.narrow.proofs.Sites.{PlacedIn}
 use Rattle.narrow.proofs.Steps.{LosesNone}
 
 module _ (n : ℕ) (p : Point) where

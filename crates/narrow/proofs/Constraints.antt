@@ -13,7 +13,7 @@ use Rattle.narrow.proofs.Boxes.{Single}
 use Rattle.narrow.proofs.Clauses.{clause-sound, clause-point}
 use Rattle.narrow.proofs.Lists.{both, left, right}
 use Rattle.narrow.proofs.Products.{product-sound, product-point}
-use Rattle.narrow.proofs.Sites.{SitedIn, SitedAll, PlacedAll}
+use Rattle.narrow.specs.Named.{SitedIn, SitedAll, PlacedAll}
 use Rattle.narrow.proofs.Squares.{square-sound, square-point}
 use Rattle.narrow.proofs.Steps.{QuietAt, AllQuiet, LosesNone}
 use Rattle.narrow.proofs.Sums.{sum-sound, sum-point}

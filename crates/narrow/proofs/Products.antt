@@ -15,7 +15,7 @@ use Rattle.narrow.specs.Narrowing.{quotientSpan, quotientCut, productSte
 use Rattle.narrow.proofs.Boxes.{Single, single-range}
 use Rattle.narrow.proofs.Cuts.{Quiet, quiet-value, Allows}
 use Rattle.narrow.proofs.Quotients.{quotient-in}
-use Rattle.narrow.proofs.Sites.{SitedIn}
+use Rattle.narrow.specs.Named.{SitedIn}
 use Rattle.narrow.proofs.Steps.{LosesNone}
 
 quotient-allows : (n : ℕ) (p : Point) (x : ℕ) (z y : Range) (w v : ℤ) → x < n → In z w → In y v → w ≡ p x *ℤ v → Allows n p (quotientCut x z y)

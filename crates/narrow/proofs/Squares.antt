@@ -17,7 +17,7 @@ use Rattle.narrow.specs.Cuts.{stay, to}
 use Rattle.narrow.specs.Narrowing.{raiseCut, lowerCut, squareStep, squareSteps}
 use Rattle.narrow.proofs.Boxes.{Single, single-range}
 use Rattle.narrow.proofs.Cuts.{Quiet, quiet-value, Allows}
-use Rattle.narrow.proofs.Sites.{SitedIn}
+use Rattle.narrow.specs.Named.{SitedIn}
 use Rattle.narrow.proofs.Steps.{LosesNone}
 
 module _ (n : ℕ) (p : Point) (q : ℕ) (x z : Range) (w : ℤ) (h : q < n) (i : In x (p q)) (j : In z w) (e : w ≡ p q *ℤ p q) where

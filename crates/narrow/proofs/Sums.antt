@@ -11,7 +11,7 @@ use Rattle.problem.specs.declared.Primitive.the-variants.{Sum}
 use Rattle.narrow.specs.Narrowing.{sumStep, sumSteps}
 use Rattle.narrow.proofs.Boxes.{Single, single-range}
 use Rattle.narrow.proofs.Cuts.{Quiet, quiet-value}
-use Rattle.narrow.proofs.Sites.{SitedIn}
+use Rattle.narrow.specs.Named.{SitedIn}
 use Rattle.narrow.proofs.Steps.{LosesNone}
 
 pub sum-sound : (n : ℕ) (p : Point) (z x y : ℕ) → SitedIn n (Sum z x y) → Holds p (Sum z x y) → AllOf (LosesNone n p) (sumSteps z x y)

@@ -1,4 +1,8 @@
 pub mod Cuts
 pub mod Narrowing
 pub mod Sweep
+pub mod Parts
+pub mod Named
+pub mod Quotients
+pub mod Promises
 pub mod inner

@@ -12,9 +12,9 @@ use Rattle.whole.specs.Ranges.{range, values}
 use Rattle.whole.proofs.Kit.{ints, plus, minus, apart}
 use Rattle.whole.proofs.Powers.{power-mono, power-half}
 use Rattle.problem.specs.Problem.{Box, lowAt, highAt, rangeAt}
+use Rattle.narrow.specs.Parts.{Part}
 use Rattle.search.specs.Search.{middleAt, lowerPart, upperPart}
 use Rattle.search.specs.Depth.{depth}
-use Rattle.search.specs.inner.Laws.{Part}
 use Rattle.search.proofs.Splits.{Splits, lower-part, upper-part, lower-at, upper-at, halved}
 
 -- half of two values or more takes one off

@@ -16,8 +16,8 @@ use Rattle.whole.proofs.Kit.{ints, plus}
 use Rattle.whole.proofs.Meaning.{middle-is}
 use Rattle.problem.specs.Problem.{Box, lowAt, highAt, Inside}
 use Rattle.problem.specs.Order.{Before}
+use Rattle.narrow.specs.Parts.{Part}
 use Rattle.search.specs.Search.{middleAt, lowerPart, upperPart}
-use Rattle.search.specs.inner.Laws.{Part}
 
 pub part-trans : {n : ℕ} {a b c : Box} → Part n a b → Part n b c → Part n a c
 part-trans f g =

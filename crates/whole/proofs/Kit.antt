@@ -1,10 +1,10 @@
 -- The proof kit for whole numbers: `omega ints` decides linear facts on ℤ by the positive part positivePart and the negative part negativePart of each number.
 use mathlib.Core.Path.{_≡_, refl, sym, ap, ap₂, subst, _∙_}
-use mathlib.Core.Logic.{_≢_, _⊎_, inl, inr, ⊎-elim}
+use mathlib.Core.Logic.{_⊎_, inl, inr, ⊎-elim}
 use mathlib.Core.Bool.{Bool, true, false, not, cond, _&&_}
 use Prim.Native.Nat.{ℕ, zero, suc, _+_, _-_, _*_, _/_, _%_, _≤_, _<_, _^_, min, max}
 use native.Mathlib.Omega.{arith}
-use lib.Dec.{lit≤, T, ltb, leb, ltb→lt, nltb→le, lt→ltb, le→leb, leb→le, nleb→lt}
+use lib.Dec.{T, ltb, leb, ltb→lt, nltb→le, lt→ltb, le→leb, leb→le, nleb→lt}
 use lib.IntN.{ℤ, pos, negsuc, negℤ, subℕ, natAbs, _+ℤ_, _-ℤ_, _*ℤ_}
 use lib.Signed.{mag, ltZ, leZ, _≤ℤ_, _<ℤ_, quotZ, remZ, shrZ, mag-shr, mag-rem, nonNeg, yes-nonNeg, pos-natAbs}
 use mir.Syntax.{w64}
@@ -12,7 +12,7 @@ use mir.Val.{Fits, SFits, toZ, ofZ}
 use mir.Facts.{toZ-ofZ, fits-natAbs}
 use mir.ValLaws.{sfits-le}
 use Rattle.whole.specs.Numbers.{positivePart, negativePart, Near, minZ, maxZ}
-use native.Mathlib.Nat.{mul-le-mul-left, add-mul, mul-le-mul-right, sub-add-cancel, le-trans, div-mul-le-self, lt-div-mul-add, div-add-mod', div-le-self, zero-mul, lt-of-not-le, le-of-suc-le-suc, not-le-of-lt, mul-le-mul}
+use native.Mathlib.Nat.{mul-le-mul-left, add-mul, mul-le-mul-right, sub-add-cancel, div-mul-le-self, lt-div-mul-add, div-add-mod', div-le-self, lt-of-not-le, not-le-of-lt, mul-le-mul}
 
 cond-ind : (c : Bool) (x y : ℤ) (Q : ℤ → Type 0) → (T c → Q x) → (T (not c) → Q y) → Q (cond c x y)
 cond-ind true x y Q f g = f tt
@@ -159,10 +159,6 @@ pub false-le : (a b : ℤ) → positivePart b + negativePart a < positivePart a 
 false-le a b h = is-false (leZ a b) (λ e. omega (arith, le-true a b e))
 
 -- ---- a signed number fits 64 bits
-pub fits-positive : (z : ℤ) → SFits w64 z → positivePart z < 2 ^ 63
-fits-positive (pos n) h = h .sfits
-fits-positive (negsuc n) h = omega arith
-
 pub fits-negative : (z : ℤ) → SFits w64 z → negativePart z ≤ 2 ^ 63
 fits-negative (pos n) h = omega arith
 fits-negative (negsuc n) h = h .sfits
@@ -180,35 +176,9 @@ at x = toZ w64 (ofZ w64 x)
 pub read-is : (z : ℤ) → SFits w64 z → positivePart (toZ w64 (ofZ w64 z)) + negativePart z ≡ positivePart z + negativePart (toZ w64 (ofZ w64 z))
 read-is z h = to-eq _ _ (toZ-ofZ h)
 
--- the bits themselves, for `==` and `!=`
-pub bits : (z : ℤ) → SFits w64 z → ofZ w64 z + negativePart z ≡ positivePart z + 2 ^ 64 * min 1 (negativePart z)
-bits (pos n) h = omega arith
-bits (negsuc n) h = rw min-one (two-parts n (h .sfits))
-  where
-    min-one : min 1 (suc n) ≡ 1
-    min-one = omega arith
-
-    two-parts : (k : ℕ) → k < 2 ^ 63 → (2 ^ 64 - suc k) + suc k ≡ 0 + 2 ^ 64 * 1
-    two-parts k h = sub-add-cancel (le-trans h (lit≤ tt))
-
 pub ruleset ints = (arith, to-le, from-le, to-lt, from-lt, to-eq, from-eq, lt-true, lt-false, le-true, le-false, true-lt, true-le, false-lt, false-le, read-is, from-fits)
 
 -- ---- order and ring laws
-pub +ℤ-mono : (a b c d : ℤ) → a ≤ℤ b → c ≤ℤ d → (a +ℤ c) ≤ℤ (b +ℤ d)
-+ℤ-mono a b c d h k = omega (ints, plus a c, plus b d)
-
-pub assoc : (a b c : ℤ) → (a +ℤ b) +ℤ c ≡ a +ℤ (b +ℤ c)
-assoc a b c = omega (ints, plus a b, plus b c, plus (a +ℤ b) c, plus a (b +ℤ c))
-
-pub ≤ℤ-trans : {a b c : ℤ} → a ≤ℤ b → b ≤ℤ c → a ≤ℤ c
-≤ℤ-trans {a} {b} {c} h k = omega ints
-
-pub <ℤ-trans : {a b c : ℤ} → a <ℤ b → b <ℤ c → a <ℤ c
-<ℤ-trans {a} {b} {c} h k = omega ints
-
-pub ≤ℤ-antisym : {a b : ℤ} → a ≤ℤ b → b ≤ℤ a → a ≡ b
-≤ℤ-antisym {a} {b} h k = omega ints
-
 -- both parts of a product, to be handed to `omega` as one entry
 pub record Times (a b : ℤ) : Type 0 where
   pub up : positivePart (a *ℤ b) ≡ positivePart a * positivePart b + negativePart a * negativePart b
@@ -242,9 +212,6 @@ made {m} {z} e f = let g : SFits w64 m = subst (SFits w64) (sym e) f in record {
 -- what an operand reads as: a parameter (`rd (c .fits .x)`), a call's result (`got (c .f .result) (c .f .ok)`), an element that was read (`got (getD s i (pos 0)) (c .x .given)`), a literal (`lit (pos 1)`), an earlier step (`h .is`), a loop's variable (`refl`)
 pub rd : {z : ℤ} → SFits w64 z → at z ≡ z
 rd f = toZ-ofZ f
-
-pub refits : {z : ℤ} → SFits w64 z → SFits w64 (at z)
-refits f = subst (SFits w64) (sym (toZ-ofZ f)) f
 
 pub got : (z : ℤ) → mag z < 2 ^ 63 → at z ≡ z
 got z h = toZ-ofZ (record { sfits = h })
@@ -311,11 +278,6 @@ quots (negsuc a) (negsuc b) h =
     let k = suc a / suc b in
     omega (arith, div-mul-le-self (suc a) (suc b), lt-div-mul-add {a = suc a} b<, div-le-self (suc a) (suc b), times (pos k) (negsuc b))
 
-pub nonzero : (b : ℤ) → (b ≡ pos 0 → ⊥) → 0 < positivePart b + negativePart b
-nonzero (pos zero) h = absurd (h refl)
-nonzero (pos (suc n)) h = omega arith
-nonzero (negsuc n) h = omega arith
-
 pub bits-nonzero : (b : ℤ) → SFits w64 b → 0 < positivePart b + negativePart b → 0 < ofZ w64 b
 bits-nonzero (pos n) f h = omega arith
 bits-nonzero (negsuc n) f h = below-power n (f .sfits)
@@ -341,22 +303,10 @@ natAbs-times a b = natAbs-is (a *ℤ b) ∙ parts ∙ sym (ap₂ _*_ (natAbs-is 
     parts : positivePart (a *ℤ b) + negativePart (a *ℤ b) ≡ (positivePart a + negativePart a) * (positivePart b + negativePart b)
     parts = omega (arith, times a b)
 
--- a product with a factor 0
-pub kill : (x y : ℕ) → x ≡ 0 → x * y ≡ 0
-kill x y e = ap (λ (n : ℕ). n * y) e ∙ zero-mul y
-
 -- ---- squares
 pub square-negative : (z : ℤ) → negativePart (z *ℤ z) ≡ 0
 square-negative (pos n) = refl
 square-negative (negsuc n) = refl
-
-below-square : (n : ℕ) → n ≤ n * n
-below-square zero = omega arith
-below-square (suc n) = omega arith
-
-pub square-positive : (z : ℤ) → positivePart z ≤ positivePart (z *ℤ z)
-square-positive (pos n) = below-square n
-square-positive (negsuc n) = omega arith
 
 pub root-lt : (m n : ℕ) → m * m < n * n → m < n
 root-lt m n h = lt-of-not-le (λ (k : n ≤ m). not-le-of-lt h (mul-le-mul k k))
@@ -390,14 +340,6 @@ cast {m} {z} h k = let e = h .is in index m (h .fits) (omega ints)
 
 pub cast-is : {m z : ℤ} → Holds m z → pos 0 ≤ℤ z → natAbs (at m) ≡ positivePart z
 cast-is {m} {z} h k = ap natAbs (h .is) ∙ omega (ints, natAbs-is z, apart z)
-
--- `==` compares the bits
-pub bits-eq : {a b : ℤ} → SFits w64 a → SFits w64 b → ofZ w64 a ≡ ofZ w64 b → a ≡ b
-bits-eq {a} {b} f g e = sym (toZ-ofZ f) ∙ ap (toZ w64) e ∙ toZ-ofZ g
-
--- how far b is above a, as a number: a loop's measure
-abbrev pub gap : ℤ → ℤ → ℕ
-gap a b = (positivePart b + negativePart a) - (positivePart a + negativePart b)
 
 -- ---- a whole expression at once: `parts (v a ⊕ v b ⊗ v c)` is the fact that `omega` wants of  a +ℤ b *ℤ c
 infixl 6 _⊕_ _⊖_
@@ -441,9 +383,6 @@ parts (a ⊗ b) =
       ap (λ (n : ℕ). n * dn a) (parts b),
     )
 
-pub *ℤ-assoc : (a b c : ℤ) → (a *ℤ b) *ℤ c ≡ a *ℤ (b *ℤ c)
-*ℤ-assoc a b c = omega (ints, parts ((v a ⊗ v b) ⊗ v c), parts (v a ⊗ (v b ⊗ v c)))
-
 -- ---- two orders multiplied: from a ≤ b and c ≤ d, that (b - a) * (d - c) is not negative
 pub rearrange : (p n q m : ℕ) → n ≤ p → m ≤ q → p * m + n * q ≤ p * q + n * m
 rearrange p n q m h k = omega (arith, mul-le-mul-left (p - n) k, cut m, cut q)
@@ -486,17 +425,8 @@ prod-high a b c d x y m ax xb cy yd m1 m2 m3 m4 =
     (sign y)
 
 -- ---- bounds on sizes, for `SFits` of sums and products of bounded numbers
-pub abs-sum : (a b : ℤ) → natAbs (a +ℤ b) ≤ natAbs a + natAbs b
-abs-sum a b = omega (arith, plus a b, natAbs-is a, natAbs-is b, natAbs-is (a +ℤ b), apart (a +ℤ b))
-
-pub abs-dif : (a b : ℤ) → natAbs (a -ℤ b) ≤ natAbs a + natAbs b
-abs-dif a b = omega (arith, minus a b, natAbs-is a, natAbs-is b, natAbs-is (a -ℤ b), apart (a -ℤ b))
-
 pub abs-prod : (a b : ℤ) {k l : ℕ} → natAbs a ≤ k → natAbs b ≤ l → natAbs (a *ℤ b) ≤ k * l
 abs-prod a b {k} {l} h i = rw natAbs-times (mul-le-mul h i)
-
-pub abs-of : (z : ℤ) (k : ℕ) → negℤ (pos k) ≤ℤ z → z ≤ℤ pos k → natAbs z ≤ k
-abs-of z k h i = omega (ints, natAbs-is z, apart z, neg-positive (pos k), neg-negative (pos k))
 
 pub fits-abs : (z : ℤ) (k : ℕ) → T (ltb k (2 ^ 63)) → natAbs z ≤ k → SFits w64 z
 fits-abs z k t h = from-fits z (omega (arith, natAbs-is z, ltb→lt k (2 ^ 63) t))
@@ -533,16 +463,6 @@ rem-is (negsuc a) (negsuc b) =
     let k = suc a / suc b in
     let m = suc a % suc b in
     omega (ints, plus (pos k *ℤ negsuc b) (negℤ (pos m)), times (pos k) (negsuc b), neg-positive (pos m), neg-negative (pos m), div-add-mod' (suc a) (suc b))
-
--- ---- negations. These are no rules for `omega` (a function type shows no argument): list them with their arguments
-pub not-le : (a b : ℤ) → (a ≤ℤ b → ⊥) → positivePart b + negativePart a < positivePart a + negativePart b
-not-le a b f = lt-of-not-le (λ h. f (from-le a b h))
-
-pub not-lt : (a b : ℤ) → (a <ℤ b → ⊥) → positivePart b + negativePart a ≤ positivePart a + negativePart b
-not-lt a b f = le-of-suc-le-suc (lt-of-not-le (λ h. f (from-lt a b h)))
-
-pub not-eq : (a b : ℤ) → (a ≡ b → ⊥) → positivePart a + negativePart b ≢ positivePart b + negativePart a
-not-eq a b f h = f (from-eq a b h)
 
 -- ---- cases
 pub le-or-lt : (m n : ℕ) → (m ≤ n) ⊎ (n < m)

@@ -13,9 +13,6 @@ use Rattle.whole.proofs.Lengths.{Length, length, shortest}
 use Rattle.whole.proofs.Meaning.{power-is, power-only}
 use Rattle.whole.proofs.Spans.{values-next, ends-apart}
 
-pub power-one : leastPower 1 ≡ 0
-power-one = let h = power-is 1 .least 0 (omega arith) in omega arith
-
 pub power-mono : (l m : ℕ) → l ≤ m → leastPower l ≤ leastPower m
 power-mono l m h = power-is l .least (leastPower m) (le-trans h (power-is m .enough))
 

@@ -9,7 +9,8 @@ use Rattle.whole.specs.Numbers.{Near, rootDown, rootUp}
 use Rattle.whole.specs.Ranges.{range, In}
 use Rattle.whole.specs.inner.Held.{Is, Root}
 use Rattle.whole.proofs.Kit.{ints, plus, times, cross, neg-positive, neg-negative, neg-times, *ℤ-comm′, sign, square-negative, root-leℤ, root-ltℤ, lt-or-le}
-use Rattle.whole.proofs.Meaning.{RootDown, down-is, down-only, down-none, up-is}
+use Rattle.whole.specs.Meaning.{RootDown}
+use Rattle.whole.proofs.Meaning.{down-is, down-only, down-none, up-is}
 
 -- ---- squares
 pub square-mono : (a b : ℤ) → pos 0 ≤ℤ a → a ≤ℤ b → (a *ℤ a) ≤ℤ (b *ℤ b)

@@ -32,22 +32,22 @@ difference-in x y u v h k = omega (ints, minus (x .low) (y .high), minus (x .hig
 
 -- ---- products
 -- the least and the greatest of four, against each of them
-record Least (m a b c d : ℤ) : Type 0 where
-  one : m ≤ℤ a
-  two : m ≤ℤ b
-  three : m ≤ℤ c
-  four : m ≤ℤ d
+pub record Least (m a b c d : ℤ) : Type 0 where
+  pub one : m ≤ℤ a
+  pub two : m ≤ℤ b
+  pub three : m ≤ℤ c
+  pub four : m ≤ℤ d
 
-least-of : (a b c d : ℤ) → Least (min4 a b c d) a b c d
+pub least-of : (a b c d : ℤ) → Least (min4 a b c d) a b c d
 least-of a b c d = omega (ints, min-parts a b, min-parts c d, min-parts (minZ a b) (minZ c d))
 
-record Most (m a b c d : ℤ) : Type 0 where
-  one : a ≤ℤ m
-  two : b ≤ℤ m
-  three : c ≤ℤ m
-  four : d ≤ℤ m
+pub record Most (m a b c d : ℤ) : Type 0 where
+  pub one : a ≤ℤ m
+  pub two : b ≤ℤ m
+  pub three : c ≤ℤ m
+  pub four : d ≤ℤ m
 
-most-of : (a b c d : ℤ) → Most (max4 a b c d) a b c d
+pub most-of : (a b c d : ℤ) → Most (max4 a b c d) a b c d
 most-of a b c d = omega (ints, max-parts a b, max-parts c d, max-parts (maxZ a b) (maxZ c d))
 
 pub product-in : (x y : Range) (u v : ℤ) → In x u → In y v → In (productSpan x y) (u *ℤ v)
@@ -137,9 +137,6 @@ square-ordered x h = in-ordered (square-in x (x .low) (low-in h))
 -- ---- spans of one value are one value
 pub sum-one : (u v : ℤ) → sumSpan (range u u) (range v v) ≡ range (u +ℤ v) (u +ℤ v)
 sum-one u v = refl
-
-pub difference-one : (u v : ℤ) → differenceSpan (range u u) (range v v) ≡ range (u -ℤ v) (u -ℤ v)
-difference-one u v = refl
 
 least-one : (a : ℤ) → min4 a a a a ≡ a
 least-one a = omega (ints, min-parts a a, min-parts (minZ a a) (minZ a a))

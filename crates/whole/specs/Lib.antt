@@ -1,4 +1,6 @@
 pub mod Lists
 pub mod Numbers
 pub mod Ranges
+pub mod Meaning
+pub mod Promises
 pub mod inner

@@ -1,9 +1,9 @@
 -- Whole numbers: M, the smaller and the larger of two, quotients and roots with their rounding, and how often a range can be halved.
--- What each of the computed definitions is, in words of order and product alone, is said in proofs/Meaning.antt.
-use mathlib.Core.Bool.{Bool, true, false, cond}
+-- What each of the computed definitions is, in words of order and product alone, is said in Meaning.antt.
+use mathlib.Core.Bool.{true, false, cond}
 use Prim.Native.Nat.{ℕ, zero, suc, _*_, _/_, _^_}
 use lib.Dec.{leb}
-use lib.IntN.{ℤ, pos, negsuc, negℤ, _+ℤ_, _-ℤ_, _*ℤ_}
+use lib.IntN.{ℤ, pos, negsuc, negℤ, _+ℤ_, _*ℤ_}
 use lib.Signed.{leZ, _≤ℤ_}
 
 -- M is 1,000,000,000,000

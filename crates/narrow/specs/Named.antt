@@ -1,11 +1,16 @@
--- The quantities of primitives and clauses, counted: each is a number below n.
+-- The quantities that primitives and clauses name, as numbers below n.
 use mathlib.Core.List.{List}
 use Prim.Native.Nat.{ℕ, _<_}
 use Rattle.whole.specs.Lists.{AllOf}
 use Rattle.problem.specs.declared.Primitive.{Primitive}
 use Rattle.problem.specs.declared.Primitive.the-variants.{Sum, Product, Square}
 use Rattle.problem.specs.declared.Literal.{Literal}
-use Rattle.narrow.specs.inner.Clause.{quantityOf}
+use Rattle.problem.specs.declared.Literal.the-variants.{AtMost, AtLeast}
+
+-- the quantity of a literal
+abbrev pub quantityOf : Literal → ℕ
+quantityOf (AtMost q c) = q
+quantityOf (AtLeast q c) = q
 
 -- the primitive's quantities are among the first n
 abbrev pub SitedIn : ℕ → Primitive → Type 0

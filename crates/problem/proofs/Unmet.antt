@@ -20,7 +20,7 @@ use Rattle.problem.specs.declared.Refusal.{Refusal}
 use Rattle.problem.specs.declared.Judged.the-variants.{Sound, Refused}
 use Rattle.problem.proofs.Tests.{or-first, or-second, by-bool}
 use Rattle.problem.proofs.Lists.{ranges-at, ranges-end}
-use Rattle.problem.proofs.Judging.{met-1, met-2, met-3, met-4, met-5, met-none}
+use Rattle.problem.proofs.Judging.{met-1, met-2, met-3, met-4, met-5}
 use Rattle.problem.proofs.Placing.{within}
 
 pub record Unmet (rs ps ns ls : List ℤ) : Type 0 where
@@ -31,9 +31,6 @@ pub record Unmet (rs ps ns ls : List ℤ) : Type 0 where
   pub literals : badLiterals (quantities rs) ls ≡ false
 
 module _ (rs ps ns ls : List ℤ) where
-  pub unmet-sound : Unmet rs ps ns ls → judgeOf rs ps ns ls ≡ Sound
-  unmet-sound u = sym (met-none rs ps ns ls (u .counted) (u .lists) (u .ranges) (u .primitives) (u .literals))
-
   pub sound-unmet : judgeOf rs ps ns ls ≡ Sound → Unmet rs ps ns ls
   sound-unmet s =
       by-bool (badQuantities rs) (λ t. no (met-1 rs ps ns ls t))
