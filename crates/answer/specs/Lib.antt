@@ -1,4 +1,5 @@
 pub mod Output
 pub mod Sheets
+pub mod Quoted
 pub mod Examples
 pub mod inner

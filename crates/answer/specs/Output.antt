@@ -68,7 +68,11 @@ deskPoint s = replicate (quantitiesIn s) (pos 0)
 -- the solve of an accepted sheet, with the filled fronts of the lists
 unfoldable pub solvedOf : Draft → List ℕ
 solvedOf s =
-    let j = judged (rangeList (s .declared ++ s .made .ranges)) (primitiveList (s .made .primitives)) (lengthList (s .made .clauses)) (literalList (literalsIn (s .made .clauses))) (pos deskBudget) (deskPoint s) deskWork in
+    let rs = rangeList (s .declared ++ s .made .ranges) in
+    let ps = primitiveList (s .made .primitives) in
+    let ns = lengthList (s .made .clauses) in
+    let ls = literalList (literalsIn (s .made .clauses)) in
+    let j = judged rs ps ns ls (pos deskBudget) (deskPoint s) deskWork in
     let o = searchOf (problemIn s) deskBudget in
     let r = resultOf j deskBudget o in
     answerLines (r .answer) (r .sweeps) (s .names) (unless j (pointOf o (deskPoint s)) (deskPoint s))
