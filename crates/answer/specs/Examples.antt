@@ -12,7 +12,7 @@ use Rattle.problem.specs.Problem.{Box, quantities}
 use Rattle.problem.specs.Grounds.{differ, anyNegative, total, badRanges, badPrimitives, badLiterals, judgeOf}
 use Rattle.problem.specs.declared.Primitive.{Primitive}
 use Rattle.problem.specs.declared.Primitive.the-variants.{Product, Square}
-use Rattle.narrow.specs.Cuts.{Result, gone, moved, still, steps, cutTo, cutOf}
+use Rattle.narrow.specs.Cuts.{Swept, empty, changed, unchanged, steps, cutTo, cutOf}
 use Rattle.narrow.specs.Narrowing.{primitiveSteps, openOf}
 use Rattle.narrow.specs.Sweep.{allSteps, sweepOf}
 use Rattle.search.specs.Search.{Outcome, lowerPart, upperPart, searchOf, step, run, openFrom}
@@ -46,16 +46,16 @@ sameBytes [] (b ∷ bs) = false
 sameBytes (a ∷ xs) [] = false
 sameBytes (a ∷ xs) (b ∷ bs) = eqb a b && sameBytes xs bs
 
-abbrev pub sameResult : Result → Result → Bool
-sameResult gone gone = true
-sameResult gone (moved b) = false
-sameResult gone (still b) = false
-sameResult (moved a) gone = false
-sameResult (moved a) (moved b) = sameList a b
-sameResult (moved a) (still b) = false
-sameResult (still a) gone = false
-sameResult (still a) (moved b) = false
-sameResult (still a) (still b) = sameList a b
+abbrev pub sameSwept : Swept → Swept → Bool
+sameSwept empty empty = true
+sameSwept empty (changed b) = false
+sameSwept empty (unchanged b) = false
+sameSwept (changed a) empty = false
+sameSwept (changed a) (changed b) = sameList a b
+sameSwept (changed a) (unchanged b) = false
+sameSwept (unchanged a) empty = false
+sameSwept (unchanged a) (changed b) = false
+sameSwept (unchanged a) (unchanged b) = sameList a b
 
 abbrev pub rank : Answer → ℕ
 rank answer.None = 0
@@ -74,7 +74,7 @@ text (l ∷ ls) = bytes l ++ (word "\n" ∷ text ls)
 
 pub data Case : Type 0 where
   -- a primitive narrows a box to this
-  narrows : Primitive → Box → Result → Case
+  narrows : Primitive → Box → Swept → Case
   -- a box is split at a quantity into these two
   splits : Box → ℕ → Box → Box → Case
   -- a sheet with a budget: the answer, the sweeps, and the values of the declared quantities
@@ -96,7 +96,7 @@ solvedTo a k values declared budget o =
     sameAnswer (r .answer) a && (eqb (r .sweeps) k && sameList (take declared (pointOf o [])) values)
 
 abbrev pub passes : Case → Bool
-passes (narrows p b r) = sameResult (steps (still b) (primitiveSteps p)) r
+passes (narrows p b r) = sameSwept (steps (unchanged b) (primitiveSteps p)) r
 passes (splits b q lower upper) = sameList (lowerPart b q) lower && sameList (upperPart b q) upper
 passes (answers t budget a k values) =
     sheetPasses (λ s. solvedTo a k values (length (s .names)) budget (searchOf (problemIn s) budget)) (grounds.outcomeOf (text t))
@@ -159,14 +159,14 @@ examples =
     ∷ answers third-sheet 5 answer.Stopped 5 (numbers "0 2")
     ∷ answers third-sheet 0 answer.Stopped 0 (numbers "0 0")
     -- P6, P7, P8
-    ∷ narrows (Product 0 1 2) (numbers "7 9  -100 100  2 2") (moved (numbers "7 9  4 4  2 2"))
-    ∷ narrows (Product 0 1 2) (numbers "-9 -7  -100 100  2 2") (moved (numbers "-9 -7  -4 -4  2 2"))
-    ∷ narrows (Product 0 1 2) (numbers "7 7  -100 100  2 2") gone
+    ∷ narrows (Product 0 1 2) (numbers "7 9  -100 100  2 2") (changed (numbers "7 9  4 4  2 2"))
+    ∷ narrows (Product 0 1 2) (numbers "-9 -7  -100 100  2 2") (changed (numbers "-9 -7  -4 -4  2 2"))
+    ∷ narrows (Product 0 1 2) (numbers "7 7  -100 100  2 2") empty
     -- P9, P10
-    ∷ narrows (Square 0 1) (numbers "5 30  0 10") (moved (numbers "5 30  3 5"))
-    ∷ narrows (Square 0 1) (numbers "5 30  -10 10") (moved (numbers "5 30  -5 5"))
+    ∷ narrows (Square 0 1) (numbers "5 30  0 10") (changed (numbers "5 30  3 5"))
+    ∷ narrows (Square 0 1) (numbers "5 30  -10 10") (changed (numbers "5 30  -5 5"))
     -- P11
-    ∷ narrows (Product 0 1 2) (pos 0 ∷ M ∷ M ∷ M ∷ M ∷ M ∷ []) gone
+    ∷ narrows (Product 0 1 2) (pos 0 ∷ M ∷ M ∷ M ∷ M ∷ M ∷ []) empty
     -- P12
     ∷ splits (numbers "-1 0") 0 (numbers "-1 -1") (numbers "0 0")
     -- a whole translation with every sign and operation

@@ -8,7 +8,8 @@ use lib.IntN.{ℤ, pos, _+ℤ_}
 use lib.Signed.{ltZ}
 use Rattle.whole.specs.Numbers.{middleOf}
 use Rattle.problem.specs.Problem.{Box, lowAt, highAt, quantities, Problem}
-use Rattle.narrow.specs.Sweep.{Swept, empty, changed, unchanged, sweepOf}
+use Rattle.narrow.specs.Cuts.{Swept, empty, changed, unchanged}
+use Rattle.narrow.specs.Sweep.{sweepOf}
 use Rattle.search.specs.declared.Open.{Open}
 use Rattle.search.specs.declared.Open.the-variants.{At, Closed}
 
@@ -40,7 +41,7 @@ abbrev pub afterSweep : Swept → Open → Box → List Box → Next
 afterSweep empty o c [] = out
 afterSweep empty o c (w ∷ ws) = go w ws
 afterSweep (changed b) o c ws = go b ws
-afterSweep unchanged o c ws = afterUnchanged o c ws
+afterSweep (unchanged b) o c ws = afterUnchanged o c ws
 
 -- stopped: the box about to be swept and those that wait; found: the box, those that wait, and the sweeps left; none: the sweeps left
 pub data Outcome : Type 0 where

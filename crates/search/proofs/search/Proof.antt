@@ -9,7 +9,8 @@ use lib.ListN.{length, drop}
 use lib.IntN.{ℤ}
 use Rattle.problem.specs.Problem.{Box, quantities}
 use Rattle.problem.specs.Lists.{primitivesOf, literalsOf, clausesOf, problemOf}
-use Rattle.narrow.specs.Sweep.{Swept, empty, changed, unchanged, sweepOf}
+use Rattle.narrow.specs.Cuts.{Swept, empty, changed, unchanged}
+use Rattle.narrow.specs.Sweep.{sweepOf}
 use Rattle.narrow.specs.inner.Done.{sweptAs}
 use Rattle.narrow.specs.declared.Status.{Status}
 use Rattle.search.specs.Search.{lowerPart, upperPart, lowest, searchOf}
@@ -90,7 +91,7 @@ module _ (t : tie.After-enum-told3 Inv-loop μ-loop) where
   held-now : Here loop-at work-now (suc (loop-at .loop .left - 1)) (loop-at .loop .waiting)
   held-now = held-same (frame-at loop-at) (one-less loop-at (t .before .before .before .before .before .if1 .left)) _ (t .before .before .before .sweep .kept .0) as-it-was
 
-  swept-now : sweep loop-at (slot loop-at work-now) ≡ unchanged
+  swept-now : sweep loop-at (slot loop-at work-now) ≡ unchanged (t .before .before .before .sweep .last .0)
   swept-now =
       ap (sweep loop-at) (same-here (frame-at loop-at) (one-less loop-at (t .before .before .before .before .before .if1 .left)) _ (t .before .before .before .sweep .kept .0) as-it-was)
       ∙ sym (ap (λ (r : Status). sweptAs r (t .before .before .before .sweep .last .0)) (sym (t .enum-told3 .given .1)) ∙ t .before .before .before .sweep .ensures .says)
