@@ -1,6 +1,6 @@
 -- Document 01's examples P1 to P12, as one list of cases with a computed test, and one theorem: all pass. P1 to P5 start from the sheet's text.
 use mathlib.Core.Path.{_≡_, refl}
-use mathlib.Core.Bool.{Bool, true, false, not, _&&_}
+use mathlib.Core.Bool.{Bool, true, false, _&&_}
 use mathlib.Core.List.{List, [], _∷_, _++_}
 use Prim.Native.Nat.{ℕ}
 use Prim.Native.String.{String}
@@ -8,13 +8,15 @@ use lib.Dec.{eqb}
 use lib.IntN.{ℤ, pos}
 use lib.ListN.{take, length}
 use Rattle.whole.specs.Numbers.{M, minZ, maxZ, floorQ, ceilQ, rootIn, rootDown, rootUp, leastFrom, leastPower}
+use Rattle.whole.specs.Quoted.{numbers, rows}
 use Rattle.problem.specs.Problem.{Box, quantities}
-use Rattle.problem.specs.Grounds.{differ, anyNegative, total, badRanges, badPrimitives, badLiterals, judgeOf}
+use Rattle.problem.specs.Grounds.{anyNegative, total, badRanges, badPrimitives, badLiterals, judgeOf}
 use Rattle.problem.specs.declared.Primitive.{Primitive}
 use Rattle.problem.specs.declared.Primitive.the-variants.{Product, Square}
 use Rattle.narrow.specs.Cuts.{Swept, empty, changed, unchanged, steps, cutTo, cutOf}
 use Rattle.narrow.specs.Narrowing.{primitiveSteps, openOf}
 use Rattle.narrow.specs.Sweep.{allSteps, sweepOf}
+use Rattle.narrow.specs.Worked.{sameList, sameSwept}
 use Rattle.search.specs.Search.{Outcome, lowerPart, upperPart, searchOf, step, run, openFrom}
 use Rattle.search.specs.Depth.{depth, depthOf, roomOf}
 use Rattle.search.specs.Solve.{answered, pointOf, lows, judged}
@@ -30,32 +32,14 @@ use Rattle.meaning.specs.Lists as lists
 use Rattle.meaning.specs.Draft.{Draft, problemIn, after}
 use Rattle.meaning.specs.Grounds as grounds
 use Rattle.sheet.specs.Text.{bytes, word}
-use Rattle.answer.specs.Quoted.{numbers, rows}
 use Rattle.answer.specs.Output.{digits, valueLines, solvedOf, outputOf}
 
 -- ---- tests
-abbrev pub sameList : List ℤ → List ℤ → Bool
-sameList [] [] = true
-sameList [] (b ∷ bs) = false
-sameList (a ∷ xs) [] = false
-sameList (a ∷ xs) (b ∷ bs) = not (differ a b) && sameList xs bs
-
 abbrev pub sameBytes : List ℕ → List ℕ → Bool
 sameBytes [] [] = true
 sameBytes [] (b ∷ bs) = false
 sameBytes (a ∷ xs) [] = false
 sameBytes (a ∷ xs) (b ∷ bs) = eqb a b && sameBytes xs bs
-
-abbrev pub sameSwept : Swept → Swept → Bool
-sameSwept empty empty = true
-sameSwept empty (changed b) = false
-sameSwept empty (unchanged b) = false
-sameSwept (changed a) empty = false
-sameSwept (changed a) (changed b) = sameList a b
-sameSwept (changed a) (unchanged b) = false
-sameSwept (unchanged a) empty = false
-sameSwept (unchanged a) (changed b) = false
-sameSwept (unchanged a) (unchanged b) = sameList a b
 
 abbrev pub rank : Answer → ℕ
 rank answer.None = 0

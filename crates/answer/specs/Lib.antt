@@ -1,5 +1,4 @@
 pub mod Output
 pub mod Sheets
-pub mod Quoted
 pub mod Examples
 pub mod inner

@@ -1,4 +1,5 @@
 pub mod Cuts
 pub mod Narrowing
 pub mod Sweep
+pub mod Worked
 pub mod inner

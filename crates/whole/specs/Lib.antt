@@ -1,4 +1,5 @@
 pub mod Lists
 pub mod Numbers
 pub mod Ranges
+pub mod Quoted
 pub mod inner
