@@ -15,7 +15,7 @@ use Rattle.sheet.specs.Grammar.{Line, spellLine}
 use Rattle.sheet.specs.Meaning.{Assignment, Obeys}
 use Rattle.meaning.specs.Plain.{placeOf}
 use Rattle.meaning.specs.Lists.{rangeList}
-use Rattle.meaning.specs.Draft.{Draft, blank, quantitiesIn, after, problemIn}
+use Rattle.meaning.specs.Draft.{Draft, blank, quantitiesIn, after, draftOf, problemIn}
 use Rattle.meaning.specs.Grounds.{topOf, read, readLines, behindFirst, outcomeOf}
 use Rattle.meaning.specs.Demand3.{Spells, Extends, Faithful}
 use Rattle.meaning.proofs.Elements.{each-join, each-left, each-right, each-map}
@@ -27,7 +27,7 @@ use Rattle.meaning.proofs.LinesSay.{Kept, kept-blank}
 use Rattle.meaning.proofs.LineCarries.{carried}
 use Rattle.meaning.proofs.Sensible.{AllSensible, sensible-blank, sensible-after}
 use Rattle.meaning.proofs.Faultless.{Faultless, text-read}
-use Rattle.meaning.proofs.LineInduction.{afterAll, after-one-more, by-lines}
+use Rattle.meaning.proofs.LineInduction.{after-one-more, by-lines}
 
 -- the ranges of a sheet: those declared, then the helpers'
 module _ (s : Draft) (p : Point) (n : ℕ) (e : n ≡ length (s .declared ++ s .made .ranges)) where
@@ -128,7 +128,7 @@ found top ls s f d l g h k = (f .back (λ n. g (placeOf (s .names) n)) g (by-poi
 pub record SoFar (top : ℕ) (ls : List Line) (s : Draft) : Type 0 where
   pub kept : Kept top ls s
   pub sensible : AllSensible ls s
-  pub made : s ≡ afterAll top blank ls
+  pub made : s ≡ draftOf top ls
 
 read-more : (top : ℕ) (ls : List Line) (s : Draft) (l : Line) → SoFar top ls s → Faultless top s l → SoFar top (ls ++ (l ∷ [])) (after top s l)
 read-more top ls s l r f =

@@ -6,14 +6,9 @@ use native.Mathlib.Omega.{arith}
 use Rattle.sheet.specs.Tokens.{tokensOf}
 use Rattle.sheet.specs.Grammar.{Line, spellLine}
 use Rattle.sheet.proofs.SpellingLines.{reads-exactly}
-use Rattle.meaning.specs.Draft.{Draft, after}
+use Rattle.meaning.specs.Draft.{Draft, after, afterAll}
 use Rattle.meaning.specs.Grounds.{Outcome, refused, read, oneLine, readLines}
 use Rattle.meaning.proofs.Faultless.{Faultless, line-read}
-
--- the sheet that some lines make of one
-abbrev pub afterAll : ℕ → Draft → List Line → Draft
-afterAll top s [] = s
-afterAll top s (l ∷ ls) = afterAll top (after top s l) ls
 
 pub after-one-more : (top : ℕ) (s : Draft) (ls : List Line) (l : Line) → afterAll top s (ls ++ (l ∷ [])) ≡ after top (afterAll top s ls) l
 after-one-more top s [] l = refl
