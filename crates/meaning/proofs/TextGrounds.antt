@@ -1,7 +1,7 @@
 -- A text is refused exactly on document 01's ground, at its line: the lines before it have no fault, and it is the first that has one.
 use mathlib.Core.Path.{_≡_, refl, sym, ap, subst, _∙_}
 use mathlib.Core.Bool.{Bool, true, false, cond}
-use mathlib.Core.List.{List, [], _∷_, _++_, append-nil, append-assoc}
+use mathlib.Core.List.{List, [], _∷_, _++_}
 use Prim.Native.Nat.{ℕ, suc, _+_}
 use native.Mathlib.Omega.{arith}
 use borrow.Author.Tests.{eqb-true}
@@ -9,7 +9,7 @@ use lib.Dec.{eqb}
 use lib.ListN.{length}
 use Rattle.problem.specs.Grounds.{FirstMet}
 use Rattle.sheet.specs.Lines.{linesOf, lineOf}
-use Rattle.sheet.specs.Grammar.{Line, ranged, default, must, when}
+use Rattle.sheet.specs.Grammar.{Line}
 use Rattle.sheet.specs.declared.Value.{Value}
 use Rattle.sheet.specs.declared.Value.the-variants.{Is, Not}
 use Rattle.meaning.specs.Draft.{Draft, blank, after, afterAll, draftOf, declaredIn}
@@ -18,6 +18,7 @@ use Rattle.meaning.specs.Refused.{LineGround, FaultFree, FirstFault, Ref
 use Rattle.meaning.specs.declared.Refusal.{Refusal}
 use Rattle.meaning.specs.declared.Refusal.the-variants.{Text, FirstLine, Version, Undeclared}
 use Rattle.meaning.proofs.DefinitionSteps.{lines-refused, lines-read, lines-end, lines-append}
+use Rattle.meaning.proofs.LineInduction.{names-declared}
 use Rattle.meaning.proofs.LineGrounds as line
 
 -- ---- lines behind any draft
@@ -80,15 +81,6 @@ fault-first top k ls n j f =
           ∙ lines-refused top s m (f .line) (f .behind) (r .0) m (r .2)
           ∙ ap (refused (r .0)) (sym (f .number)),
     )
-
--- the names of a draft are those of the range lines that made it
-pub names-declared : (top : ℕ) (s : Draft) (xs : List Line) → afterAll top s xs .names ≡ s .names ++ declaredIn xs
-unfolding after declaredIn
-names-declared top s [] = sym (append-nil (s .names))
-names-declared top s (ranged n low high ∷ xs) = names-declared top (after top s (ranged n low high)) xs ∙ append-assoc (s .names) (n ∷ []) (declaredIn xs)
-names-declared top s (default n ∷ xs) = names-declared top (after top s (default n)) xs ∙ append-assoc (s .names) (n ∷ []) (declaredIn xs)
-names-declared top s (must d ds ∷ xs) = names-declared top (after top s (must d ds)) xs
-names-declared top s (when c cs d ds ∷ xs) = names-declared top (after top s (when c cs d ds)) xs
 
 empty : (ns : List ℕ) → length ns ≡ 0 → ns ≡ []
 empty [] e = refl

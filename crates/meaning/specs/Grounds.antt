@@ -66,6 +66,15 @@ otherVersion v = not (eqb v 1)
 abbrev pub topOf : ℕ → ℕ
 topOf version = 1_000_000
 
+-- the version that line 1 gives; 0 where it is malformed
+abbrev pub versionIn : Value → ℕ
+versionIn Not = 0
+versionIn (Is v) = v
+
+-- the top of the default range in a text
+abbrev pub topIn : List ℕ → ℕ
+topIn t = topOf (versionIn (firstLine (lineOf t 1)))
+
 -- 24: a range line after a rule
 abbrev pub lateRange : Draft → Line → Bool
 lateRange s (ranged n low high) = s .ruled
