@@ -1,21 +1,19 @@
 -- An answer to the translated lists holds for the sheet as written: demand 2 for the problem, demand 3 from the problem to the sheet.
 use mathlib.Core.Path.{_≡_, refl}
-use mathlib.Core.List.{List, _++_}
+use mathlib.Core.List.{List}
 use Prim.Native.Nat.{ℕ}
 use native.Mathlib.Omega.{arith}
 use lib.IntN.{ℤ}
-use Rattle.problem.specs.declared.Judged.the-variants.{Sound}
-use Rattle.search.specs.Solve.{judged, Solves}
 use Rattle.search.specs.Demand2.{Right, NoneBefore, pointAt}
 use Rattle.search.specs.declared.Solved.{Solved}
 use Rattle.search.proofs.Promise.{solve-right}
 use Rattle.sheet.specs.Grammar.{Line}
-use Rattle.meaning.specs.Lists.{rangeList, primitiveList, lengthList, literalsIn, literalList}
 use Rattle.meaning.specs.Draft.{Draft, problemIn}
 use Rattle.meaning.specs.Grounds.{topIn, outcomeOf, read}
-use Rattle.meaning.specs.Demand3.{Spells, Faithful}
+use Rattle.meaning.specs.Demand3.{Faithful}
 use Rattle.meaning.proofs.Demand3 as demand3
 use Rattle.meaning.proofs.Fits.{fits, read-back}
+use Rattle.answer.specs.Promises.{SheetAnswer}
 use Rattle.answer.specs.Sheets.{Means, inOrder, NoneObeysBefore}
 
 module _ (t : List ℕ) (s : Draft) (e : outcomeOf t ≡ read s) (ls : List Line) (f : Faithful (topIn t) ls (s .names) (problemIn s)) where
@@ -24,7 +22,7 @@ module _ (t : List ℕ) (s : Draft) (e : outcomeOf t ≡ read s) (ls : List Line
     unless-before none v o =
         demand3.least (topIn t) ls (s .names) (problemIn s) f (omega (arith, fits t s e .within, demand3.counted s)) (pointAt p) none v o (inOrder (s .names) v) (λ q l. refl)
 
-    means : Means (topIn t) ls (s .names) (r .answer) p
+    pub means : Means (topIn t) ls (s .names) (r .answer) p
     means =
         record {
           none = λ h. demand3.none (topIn t) ls (s .names) (problemIn s) f (right .none h);
@@ -33,12 +31,7 @@ module _ (t : List ℕ) (s : Draft) (e : outcomeOf t ≡ read s) (ls : List Line
           floor = λ h. unless-before (right .floor h);
         }
 
--- for every accepted sheet: what a solve of its lists answers, read for the sheet as written, in order of declaration
-pub sheet-answer : (t : List ℕ) (s : Draft) → outcomeOf t ≡ read s
-    → {budget : ℤ} {p₀ w₀ p w : List ℤ} {r : Solved}
-    → Solves (rangeList (s .declared ++ s .made .ranges)) (primitiveList (s .made .primitives)) (lengthList (s .made .clauses)) (literalList (literalsIn (s .made .clauses))) budget p₀ w₀ p w r
-    → judged (rangeList (s .declared ++ s .made .ranges)) (primitiveList (s .made .primitives)) (lengthList (s .made .clauses)) (literalList (literalsIn (s .made .clauses))) budget p₀ w₀ ≡ Sound
-    → (ls : List Line) × Spells t ls × Means (topIn t) ls (s .names) (r .answer) p
-sheet-answer t s e solves sound =
+pub sheet-answered : SheetAnswer
+sheet-answered t s e budget p₀ w₀ p w r solves sound =
     let d = demand3.demand3 t s e in
     (d .0, d .1, means t s e (d .0) (d .3) (rw (read-back s) at (solve-right solves sound)))

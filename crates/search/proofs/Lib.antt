@@ -8,6 +8,7 @@ pub mod Going
 pub mod Judged
 pub mod Instance
 pub mod Promise
+pub mod PointLength
 pub mod Copies
 pub mod TwoSlots
 pub mod Slots
