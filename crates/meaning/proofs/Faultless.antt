@@ -5,7 +5,7 @@ use mathlib.Core.List.{List}
 use mathlib.Core.Option.{Option, none, some}
 use Prim.Native.Nat.{ℕ, zero, suc, _<_, _≤_}
 use native.Mathlib.Omega.{arith}
-use lib.Dec.{eqb, ltb}
+use lib.Dec.{eqb}
 use lib.ListN.{length}
 use borrow.Author.Tests.{ltb-false, eqb-false}
 use Rattle.sheet.specs.Lines.{linesOf, lineOf}
@@ -16,9 +16,9 @@ use Rattle.sheet.specs.Reading.{readLine}
 use Rattle.sheet.specs.declared.Value.{Value}
 use Rattle.sheet.specs.declared.Value.the-variants.{Is, Not}
 use Rattle.meaning.specs.Plain.{asksOf}
-use Rattle.meaning.specs.Translation.{gaps, equalities}
+use Rattle.meaning.specs.Translation.{equalities}
 use Rattle.meaning.specs.Draft.{Draft, blank, quantitiesIn, after}
-use Rattle.meaning.specs.Grounds.{lateRange, badNames, badOrder, anyBeyond, treeFault, Outcome, refused, read, orRefused, lineOutcome, oneLine, readLines, someDeclared, behindFirst, byVersion, topOf, badText, firstLine, outcomeOf}
+use Rattle.meaning.specs.Grounds.{lateRange, badNames, badOrder, manyDemands, helperBeyond, manyQuantities, otherVersion, treeFault, Outcome, refused, read, orRefused, lineOutcome, oneLine, readLines, someDeclared, behindFirst, byVersion, topOf, badText, firstLine, outcomeOf}
 use Rattle.meaning.specs.declared.Refusal.{Refusal}
 use Rattle.meaning.specs.declared.Refusal.the-variants as refusal
 
@@ -28,7 +28,7 @@ pub record Faultless (top : ℕ) (s : Draft) (l : Line) : Type 0 where
   pub names : badNames s l ≡ false
   pub order : badOrder l ≡ false
   pub single : equalities (asksOf (s .names) l) ≤ 1
-  pub near : anyBeyond (gaps (s .declared) (quantitiesIn s) (asksOf (s .names) l) .ranges) ≡ false
+  pub near : helperBeyond s l ≡ false
   pub few : quantitiesIn (after top s l) ≤ 128
 
 past : (b : Bool) (g : Refusal) (o : Option Refusal) → cond b (some g) o ≡ none → (b ≡ false) × (o ≡ none)
@@ -41,9 +41,9 @@ faultless top s l e =
     let a = past (lateRange s l) refusal.Form _ e in
     let b = past (badNames s l) refusal.Names _ (a .1) in
     let c = past (badOrder l) refusal.Order _ (b .1) in
-    let d = past (ltb 1 (equalities (asksOf (s .names) l))) refusal.Equalities _ (c .1) in
-    let f = past (anyBeyond (gaps (s .declared) (quantitiesIn s) (asksOf (s .names) l) .ranges)) refusal.Beyond _ (d .1) in
-    let g = past (ltb 128 (quantitiesIn (after top s l))) refusal.Many none (f .1) in
+    let d = past (manyDemands s l) refusal.Equalities _ (c .1) in
+    let f = past (helperBeyond s l) refusal.Beyond _ (d .1) in
+    let g = past (manyQuantities top s l) refusal.Many none (f .1) in
     record { late = a .0; names = b .0; order = c .0; single = ltb-false 1 _ (d .0); near = f .0; few = ltb-false 128 _ (g .0) }
 
 -- a line that is read
@@ -97,12 +97,12 @@ text-read t s e = good (badText t) e
         let d = declared s′ (eqb (length (s′ .names)) 0) refl h in
         record { version = v; first = i; lines = f ∙ ap read (d .0); some = d .1 }
 
-    known : (v : ℕ) (b : Bool) → firstLine (lineOf t 1) ≡ Is v → cond b (someDeclared (readLines (topOf v) 2 blank (behindFirst (linesOf t)))) (refused refusal.Version 1) ≡ read s → TextRead t s
-    known v true i h = lines v (readLines (topOf v) 2 blank (behindFirst (linesOf t))) i refl h
-    known v false i h = absurd (let z : _≡_ {A = ℕ} 0 1 = cc in omega arith)
+    known : (v : ℕ) (b : Bool) → firstLine (lineOf t 1) ≡ Is v → cond b (refused refusal.Version 1) (someDeclared (readLines (topOf v) 2 blank (behindFirst (linesOf t)))) ≡ read s → TextRead t s
+    known v true i h = absurd (let z : _≡_ {A = ℕ} 0 1 = cc in omega arith)
+    known v false i h = lines v (readLines (topOf v) 2 blank (behindFirst (linesOf t))) i refl h
 
     versioned : (v : Value) → firstLine (lineOf t 1) ≡ v → byVersion v t ≡ read s → TextRead t s
-    versioned (Is v) i h = known v (eqb v 1) i h
+    versioned (Is v) i h = known v (otherVersion v) i h
     versioned Not i h = absurd (let z : _≡_ {A = ℕ} 0 1 = cc in omega arith)
 
     good : (b : Bool) → cond b (refused refusal.Text 0) (byVersion (firstLine (lineOf t 1)) t) ≡ read s → TextRead t s

@@ -1,23 +1,27 @@
 -- What holds before the first line and is carried on by each line holds of the sheet read, with the trees that its lines spell: by induction over the lines.
-use mathlib.Core.Path.{_≡_, refl, sym, ap₂, subst}
+use mathlib.Core.Path.{_≡_, refl, sym, ap₂, subst, _∙_}
 use mathlib.Core.List.{List, [], _∷_, _++_, map, append-assoc, append-nil}
 use Prim.Native.Nat.{ℕ, suc}
 use native.Mathlib.Omega.{arith}
 use Rattle.sheet.specs.Tokens.{tokensOf}
-use Rattle.sheet.specs.Grammar.{Line, spellLine}
+use Rattle.sheet.specs.Grammar.{Line, ranged, default, must, when, spellLine}
 use Rattle.sheet.proofs.SpellingLines.{reads-exactly}
-use Rattle.meaning.specs.Draft.{Draft, after}
+use Rattle.meaning.specs.Draft.{Draft, after, afterAll, declaredIn}
 use Rattle.meaning.specs.Grounds.{Outcome, refused, read, oneLine, readLines}
 use Rattle.meaning.proofs.Faultless.{Faultless, line-read}
-
--- the sheet that some lines make of one
-abbrev pub afterAll : ℕ → Draft → List Line → Draft
-afterAll top s [] = s
-afterAll top s (l ∷ ls) = afterAll top (after top s l) ls
 
 pub after-one-more : (top : ℕ) (s : Draft) (ls : List Line) (l : Line) → afterAll top s (ls ++ (l ∷ [])) ≡ after top (afterAll top s ls) l
 after-one-more top s [] l = refl
 after-one-more top s (x ∷ ls) l = after-one-more top (after top s x) ls l
+
+-- the names of a draft are those of the range lines that made it
+pub names-declared : (top : ℕ) (s : Draft) (xs : List Line) → afterAll top s xs .names ≡ s .names ++ declaredIn xs
+unfolding after declaredIn
+names-declared top s [] = sym (append-nil (s .names))
+names-declared top s (ranged n low high ∷ xs) = names-declared top (after top s (ranged n low high)) xs ∙ append-assoc (s .names) (n ∷ []) (declaredIn xs)
+names-declared top s (default n ∷ xs) = names-declared top (after top s (default n)) xs ∙ append-assoc (s .names) (n ∷ []) (declaredIn xs)
+names-declared top s (must d ds ∷ xs) = names-declared top (after top s (must d ds)) xs
+names-declared top s (when c cs d ds ∷ xs) = names-declared top (after top s (when c cs d ds)) xs
 
 module _ (top : ℕ) (I : List Line → Draft → Type 0)
     (step : (ls : List Line) (s : Draft) (t : List ℕ) (l : Line) → I ls s → tokensOf t ≡ spellLine l → Faultless top s l → I (ls ++ (l ∷ [])) (after top s l)) where

@@ -37,14 +37,14 @@ pub record Kept (top : ℕ) (ls : List Line) (s : Draft) : Type 0 where
   pub long : (p : Point) → length (helped p) ≡ length (s .made .ranges)
   pub same : (p p′ : Point) → Alike (length (s .declared)) p p′ → helped p ≡ helped p′
   -- an assignment that obeys is in every range, and with its helpers' values it satisfies what the rules have made
-  pub there : (v : Assignment) (p : Point) → Extends s v p → Obeys top v ls → Shows p (length (s .declared)) (helped p) → Within p 0 (s .declared) × SatisfiesFrom (length (s .declared)) p (s .made)
+  pub there : (v : Assignment) (p : Point) → Extends (s .names) v p → Obeys top v ls → Shows p (length (s .declared)) (helped p) → Within p 0 (s .declared) × SatisfiesFrom (length (s .declared)) p (s .made)
   -- no other values do, and what satisfies comes from an assignment that obeys
   pub shown : (p : Point) → SatisfiesFrom (length (s .declared)) p (s .made) → Shows p (length (s .declared)) (helped p)
-  pub back : (v : Assignment) (p : Point) → Extends s v p → Within p 0 (s .declared) → SatisfiesFrom (length (s .declared)) p (s .made) → Obeys top v ls
+  pub back : (v : Assignment) (p : Point) → Extends (s .names) v p → Within p 0 (s .declared) → SatisfiesFrom (length (s .declared)) p (s .made) → Obeys top v ls
   -- in the declared ranges, obeying or not, the helpers' values are in their ranges and all equations hold
   pub values : (p : Point) → Within p 0 (s .declared) → Shows p (length (s .declared)) (helped p) → Within p (length (s .declared)) (s .made .ranges) × AllOf (Holds p) (s .made .primitives)
 
-pub extends-agrees : (s : Draft) (v : Assignment) (p : Point) → Extends s v p → Agrees (s .names) v p
+pub extends-agrees : (s : Draft) (v : Assignment) (p : Point) → Extends (s .names) v p → Agrees (s .names) v p
 extends-agrees s v p x = record { gives = λ n h. let e = placed (s .names) n h in x _ (e .0) ∙ ap v (e .1) }
 
 none-yet : (k : ℕ) (p : Point) → SatisfiesFrom k p nothing
@@ -65,8 +65,8 @@ kept-blank top =
     }
 
 -- ---- a range line
-module _ (s : Draft) (n : ℕ) (r : Range) (v : Assignment) (p : Point) (x : Extends (declare s n r) v p) where
-  extends-before : Extends s v p
+module _ (s : Draft) (n : ℕ) (r : Range) (v : Assignment) (p : Point) (x : Extends (declare s n r .names) v p) where
+  extends-before : Extends (s .names) v p
   extends-before q l = x q (omega (arith, length-append (s .names) (n ∷ []))) ∙ ap v (List·getD-append (s .names) (n ∷ []) 0 q l)
 
   extends-last : p (length (s .names)) ≡ v n
@@ -87,7 +87,7 @@ module _ (top : ℕ) (ls : List Line) (s : Draft) (k : Kept top ls s) (free : s 
   nothing-shown m p = subst (Shows p m) (sym (none-helped p)) tt
 
   module _ (n : ℕ) (r : Range) (l : Line) (says : (v : Assignment) → ObeysLine top v l ↔ In r (v n)) where
-    new-value : (v : Assignment) (p : Point) → Extends (declare s n r) v p → p (length (s .declared)) ≡ v n
+    new-value : (v : Assignment) (p : Point) → Extends (declare s n r .names) v p → p (length (s .declared)) ≡ v n
     new-value v p x = ap p (sym (k .many)) ∙ extends-last s n r v p x
 
     pub kept-declare : Kept top (ls ++ (l ∷ [])) (declare s n r)

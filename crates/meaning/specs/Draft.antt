@@ -45,6 +45,22 @@ after top s (default n) = declare s n (range (pos 0) (pos top))
 after top s (must d ds) = rule s (must d ds)
 after top s (when c cs d ds) = rule s (when c cs d ds)
 
+-- the draft that trees make of one, and of none
+abbrev pub afterAll : ℕ → Draft → List Line → Draft
+afterAll top s [] = s
+afterAll top s (l ∷ ls) = afterAll top (after top s l) ls
+
+abbrev pub draftOf : ℕ → List Line → Draft
+draftOf top ls = afterAll top blank ls
+
+-- the names of the range lines, in order
+unfoldable pub declaredIn : List Line → List ℕ
+declaredIn [] = []
+declaredIn (ranged n low high ∷ ls) = n ∷ declaredIn ls
+declaredIn (default n ∷ ls) = n ∷ declaredIn ls
+declaredIn (must d ds ∷ ls) = declaredIn ls
+declaredIn (when c cs d ds ∷ ls) = declaredIn ls
+
 -- the problem of an accepted sheet
 abbrev pub problemIn : Draft → Problem
 problemIn s = record { ranges = rangeList (s .declared ++ s .made .ranges); primitives = s .made .primitives; clauses = s .made .clauses }

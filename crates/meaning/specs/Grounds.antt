@@ -1,13 +1,12 @@
 -- Grounds 19 to 30, in document 01's order, each as its own definition; the first line with a fault decides, the lowest number within it.
 use mathlib.Core.Bool.{Bool, true, false, not, cond, _||_, _&&_}
-use mathlib.Core.List.{List, [], _∷_, _++_}
+use mathlib.Core.List.{List, [], _∷_}
 use mathlib.Core.Option.{Option, none, some}
-use Prim.Native.Nat.{ℕ, zero, suc, _+_, _-_, _*_}
+use Prim.Native.Nat.{ℕ, suc, _+_, _-_, _*_}
 use lib.Dec.{eqb, leb, ltb}
 use lib.IntN.{ℤ}
 use lib.ListN.{length, getD}
 use lib.Signed.{ltZ}
-use Rattle.whole.specs.Numbers.{M, minusM}
 use Rattle.whole.specs.declared.Range.{Range}
 use Rattle.problem.specs.Grounds.{beyond}
 use Rattle.sheet.specs.Lines.{linesOf, lineOf}
@@ -59,9 +58,22 @@ firstLine (r ∷ (u ∷ [])) = Not
 firstLine (r ∷ (u ∷ (l ∷ []))) = Not
 firstLine (r ∷ (u ∷ (l ∷ (s ∷ ds)))) = cond (eqb r (word "R") && (eqb u (word "U") && (eqb l (word "L") && eqb s (word " ")))) (versionOf ds) Not
 
+-- 22: version not 1
+abbrev pub otherVersion : ℕ → Bool
+otherVersion v = not (eqb v 1)
+
 -- the top of the default range, by the version
 abbrev pub topOf : ℕ → ℕ
 topOf version = 1_000_000
+
+-- the version that line 1 gives; 0 where it is malformed
+abbrev pub versionIn : Value → ℕ
+versionIn Not = 0
+versionIn (Is v) = v
+
+-- the top of the default range in a text
+abbrev pub topIn : List ℕ → ℕ
+topIn t = topOf (versionIn (firstLine (lineOf t 1)))
 
 -- 24: a range line after a rule
 abbrev pub lateRange : Draft → Line → Bool
@@ -94,18 +106,27 @@ unfoldable pub anyBeyond : List Range → Bool
 anyBeyond [] = false
 anyBeyond (r ∷ rs) = (beyond (r .low) || beyond (r .high)) || anyBeyond rs
 
+-- 27: more than one equality demand in a rule
+abbrev pub manyDemands : Draft → Line → Bool
+manyDemands s l = ltb 1 (equalities (asksOf (s .names) l))
+
+-- 28: a helper's range leaves plus or minus M
+abbrev pub helperBeyond : Draft → Line → Bool
+helperBeyond s l = anyBeyond (gaps (s .declared) (quantitiesIn s) (asksOf (s .names) l) .ranges)
+
+-- 29: more than 128 quantities
+abbrev pub manyQuantities : ℕ → Draft → Line → Bool
+manyQuantities top s l = ltb 128 (quantitiesIn (after top s l))
+
 -- the grounds of a line that is of the forms: 24 to 29
 unfoldable pub treeFault : ℕ → Draft → Line → Option Refusal
 treeFault top s l =
     cond (lateRange s l) (some refusal.Form)
     (cond (badNames s l) (some refusal.Names)
     (cond (badOrder l) (some refusal.Order)
-    -- 27: more than one equality demand in a rule
-    (cond (ltb 1 (equalities (asksOf (s .names) l))) (some refusal.Equalities)
-    -- 28: a helper's range leaves plus or minus M
-    (cond (anyBeyond (gaps (s .declared) (quantitiesIn s) (asksOf (s .names) l) .ranges)) (some refusal.Beyond)
-    -- 29: more than 128 quantities
-    (cond (ltb 128 (quantitiesIn (after top s l))) (some refusal.Many) none)))))
+    (cond (manyDemands s l) (some refusal.Equalities)
+    (cond (helperBeyond s l) (some refusal.Beyond)
+    (cond (manyQuantities top s l) (some refusal.Many) none)))))
 
 -- what becomes of a sheet: refused on a ground at a line, or read
 pub data Outcome : Type 0 where
@@ -139,11 +160,11 @@ abbrev pub behindFirst : List (List ℕ) → List (List ℕ)
 behindFirst [] = []
 behindFirst (l ∷ ls) = ls
 
--- 22: version not 1
+-- by what line 1 is: 21, 22, or the lines behind it decide
 abbrev pub byVersion : Value → List ℕ → Outcome
 byVersion Not t = refused refusal.FirstLine 1
 byVersion (Is v) t =
-    cond (eqb v 1) (someDeclared (readLines (topOf v) 2 blank (behindFirst (linesOf t)))) (refused refusal.Version 1)
+    cond (otherVersion v) (refused refusal.Version 1) (someDeclared (readLines (topOf v) 2 blank (behindFirst (linesOf t))))
 
 -- the whole text
 unfoldable pub outcomeOf : List ℕ → Outcome

@@ -1,6 +1,7 @@
 pub mod Cuts
 pub mod Narrowing
 pub mod Sweep
+pub mod Worked
 pub mod Parts
 pub mod Named
 pub mod Quotients

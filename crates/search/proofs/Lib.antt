@@ -10,6 +10,7 @@ pub mod Instance
 pub mod SolveGrounds
 pub mod Answered
 pub mod Promises
+pub mod PointLength
 pub mod Copies
 pub mod TwoSlots
 pub mod Slots
