@@ -173,7 +173,7 @@ unfolding linesOf lineOf tokens.piecesOf tokens.suffixOf tokens.digitsOf tokens.
 read-open = tt
 
 unfoldable made-open : Unit {0}
-unfolding plain.placeOf plain.isIn plain.plainE plain.namedE plain.asksOf translation.spanFor translation.rangeOf translation.sizeOf translation.placeIn translation.equation translation.pieceOf translation.halfOf translation.literalsFor translation.equal translation.equalities translation.sizes translation.gaps translation.clauseOf translation.oneOrTwo translation.ruleOf lists.rangeList after
+unfolding plain.placeOf plain.isIn plain.plainE plain.namedE plain.asksOf translation.spanFor translation.rangeOf translation.sizeOf translation.placeIn translation.equation translation.pieceOf translation.halfOf translation.literalsFor translation.equal translation.equalities translation.gaps translation.clauseOf translation.oneOrTwo translation.ruleOf lists.rangeList after
 made-open = tt
 
 unfoldable judged-open : Unit {0}
