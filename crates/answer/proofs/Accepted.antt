@@ -14,7 +14,7 @@ use Rattle.translate.specs.declared.Counts.{Counts}
 use Rattle.translate.specs.declared.Translated.{Translated}
 use Rattle.translate.specs.declared.Translated.the-variants.{Refused}
 use Rattle.meaning.proofs.FlatLists.{ranges-length, names-length}
-use Rattle.meaning.proofs.Fits.{passes}
+use Rattle.meaning.proofs.Fits.{fits}
 use Rattle.translate.proofs.AcceptedFronts.{Taken}
 use Rattle.answer.specs.Output.{refusedLine, printed, outputOf}
 use Rattle.answer.specs.inner.Reporting.{reportOn, Fronts}
@@ -70,7 +70,7 @@ pub record Few (c : Counts) : Type 0 where
 module _ (t : List ℕ) (c : Counts) (rs ps ns ls : List ℤ) (bs : List ℕ) (h : Taken t c rs ps ns ls bs) where
   pub few : Few c
   few =
-      let f = passes t (h .draft) (h .is) in
+      let f = fits t (h .draft) (h .is) in
       let e = h .counts in
       record {
         quantities = omega (arith, ap (λ (x : Counts). x .quantities) e, f .few);
@@ -82,7 +82,7 @@ module _ (t : List ℕ) (c : Counts) (rs ps ns ls : List ℤ) (bs : List ℕ) (h
 
   pub fronts : Fronts (take (2 * c .quantities) rs) (take (8 * c .declared) bs)
   fronts =
-      let f = passes t (h .draft) (h .is) in
+      let f = fits t (h .draft) (h .is) in
       let s = h .draft in
       rw (h .ranges, h .names)
       (record {

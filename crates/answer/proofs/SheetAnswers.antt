@@ -15,20 +15,20 @@ use Rattle.meaning.specs.Draft.{Draft, problemIn}
 use Rattle.meaning.specs.Grounds.{topIn, outcomeOf, read}
 use Rattle.meaning.specs.Demand3.{Spells, Faithful}
 use Rattle.meaning.proofs.Demand3 as demand3
-use Rattle.meaning.proofs.Fits.{passes, read-back}
+use Rattle.meaning.proofs.Fits.{fits, read-back}
 use Rattle.answer.specs.Sheets.{Means, inOrder, NoneObeysBefore}
 
 module _ (t : List ℕ) (s : Draft) (e : outcomeOf t ≡ read s) (ls : List Line) (f : Faithful (topIn t) ls (s .names) (problemIn s)) where
   module _ {budget : ℕ} {r : Solved} {p : List ℤ} (right : Right (problemIn s) budget (r .answer) (r .sweeps) p) where
     unless-before : NoneBefore (problemIn s) (pointAt p) → NoneObeysBefore (topIn t) ls (s .names) p
     unless-before none v o =
-        demand3.least (topIn t) ls (s .names) (problemIn s) f (omega (arith, passes t s e .within, demand3.counted s)) (pointAt p) none v o (inOrder (s .names) v) (λ q l. refl)
+        demand3.least (topIn t) ls (s .names) (problemIn s) f (omega (arith, fits t s e .within, demand3.counted s)) (pointAt p) none v o (inOrder (s .names) v) (λ q l. refl)
 
     means : Means (topIn t) ls (s .names) (r .answer) p
     means =
         record {
           none = λ h. demand3.none (topIn t) ls (s .names) (problemIn s) f (right .none h);
-          found = λ h. demand3.found (topIn t) ls (s .names) (problemIn s) f (passes t s e .distinct) (pointAt p) (right .found h .satisfies);
+          found = λ h. demand3.found (topIn t) ls (s .names) (problemIn s) f (fits t s e .distinct) (pointAt p) (right .found h .satisfies);
           smallest = λ h. unless-before (right .found h .first);
           floor = λ h. unless-before (right .floor h);
         }

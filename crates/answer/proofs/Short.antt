@@ -15,7 +15,7 @@ use Rattle.meaning.specs.Draft.{Draft, problemIn}
 use Rattle.meaning.specs.Grounds.{Outcome, refused, read, outcomeOf}
 use Rattle.meaning.specs.Grounds as sheet
 use Rattle.meaning.proofs.FlatLists.{padded-length}
-use Rattle.meaning.proofs.Fits.{passes}
+use Rattle.meaning.proofs.Fits.{fits}
 use Rattle.sheet.specs.Text.{bytes}
 use Rattle.answer.specs.Output.{valueLine, valueLines, refusedLine, countLine, answerLines, deskBudget, deskWork, deskPoint, solvedOf, printed, outputOf, Answers}
 use Rattle.answer.specs.inner.Writing.{Puts}
@@ -60,7 +60,7 @@ output-short t = go (outcomeOf t) refl
   where
     go : (o : Outcome) → outcomeOf t ≡ o → length (printed o) ≤ 4096
     go (refused g k) e = omega (arith, refused-short (sheet.refusalNumber g) k)
-    go (read s) e = omega (arith, solved-short s, passes t s e .names)
+    go (read s) e = omega (arith, solved-short s, fits t s e .names)
 
 -- so what is put from the start of a buffer of 4,096 bytes is the whole output
 pub answers : (t l l′ : List ℕ) (r : ℕ) → length l ≡ 4096 → Puts (outputOf t) l 0 l′ r → Answers t l r l′

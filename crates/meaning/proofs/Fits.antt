@@ -1,4 +1,4 @@
--- What is accepted fits the caller's lists and passes the solver's grounds 1 to 5: each line left room, and as the lowest values have helpers in every range, no range is empty.
+-- What is accepted fits the caller's lists and fits the solver's grounds 1 to 5: each line left room, and as the lowest values have helpers in every range, no range is empty.
 use mathlib.Core.Path.{_≡_, sym, ap, subst, _∙_}
 use mathlib.Core.List.{List, [], _∷_, _++_}
 use Prim.Native.Nat.{ℕ, suc, _<_, _≤_}
@@ -64,8 +64,8 @@ pub record Passes (s : Draft) : Type 0 where
   pub known : AllOf (Known (quantitiesIn s)) (s .made .primitives)
   pub good : AllOf (Good (quantitiesIn s)) (literalsIn (s .made .clauses))
 
-pub passes : (t : List ℕ) (s : Draft) → outcomeOf t ≡ read s → Passes s
-passes t s e =
+pub fits : (t : List ℕ) (s : Draft) → outcomeOf t ≡ read s → Passes s
+fits t s e =
     let r = text-read t s e in
     let h = room-read (topOf (r .version)) (omega arith) 2 _ s (r .lines) in
     let v = values t s e (lowest (s .declared)) (lowest-in (s .declared) (h .ordered)) in
@@ -88,9 +88,9 @@ passes t s e =
     }
 
 -- as lists of full size see it
-pub fits : (t : List ℕ) (s : Draft) → outcomeOf t ≡ read s → Fits s
-fits t s e =
-    let f = passes t s e in
+pub room : (t : List ℕ) (s : Draft) → outcomeOf t ≡ read s → Fits s
+room t s e =
+    let f = fits t s e in
     record {
       ranges = omega (arith, f .few);
       primitives = omega (arith, f .primitives);
@@ -105,7 +105,7 @@ fits t s e =
 -- none of the solver's grounds 1 to 5
 pub accepted-sound : (t : List ℕ) (s : Draft) → outcomeOf t ≡ read s → judgeOf (rangeList (s .declared ++ s .made .ranges)) (primitiveList (s .made .primitives)) (lengthList (s .made .clauses)) (literalList (literalsIn (s .made .clauses))) ≡ Sound
 accepted-sound t s e =
-    let f = passes t s e in
+    let f = fits t s e in
     let n = length-append (s .declared) (s .made .ranges) in
     sound (s .declared ++ s .made .ranges) (s .made .primitives) (s .made .clauses)
     (record {

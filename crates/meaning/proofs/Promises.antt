@@ -2,7 +2,7 @@
 use Rattle.meaning.specs.Promises.{Grounds, GroundsBack, Demand3, Values, Fitting, AcceptedSound, ReadBack, LettersBack}
 use Rattle.meaning.proofs.TextGrounds as text
 use Rattle.meaning.proofs.Demand3 as demand
-use Rattle.meaning.proofs.Fits as room
+use Rattle.meaning.proofs.Fits as accepted
 use Rattle.meaning.proofs.NameLetters as letters
 
 pub grounds : Grounds
@@ -18,13 +18,13 @@ pub values : Values
 values = demand.values
 
 pub fits : Fitting
-fits = room.fits
+fits = accepted.room
 
 pub accepted-sound : AcceptedSound
-accepted-sound = room.accepted-sound
+accepted-sound = accepted.accepted-sound
 
 pub read-back : ReadBack
-read-back = room.read-back
+read-back = accepted.read-back
 
 pub letters-back : LettersBack
 letters-back = letters.name-padded
