@@ -215,7 +215,7 @@ unfolding linesOf lineOf tokens.tokenOf tokens.tokensOf reading.exprF reading.co
 read-open = tt
 
 unfoldable plain-open : Unit {0}
-unfolding translation.sizes plain.placeOf plain.isIn plain.plainE plain.namedE plain.asksOf lists.rangeList after
+unfolding plain.placeOf plain.isIn plain.plainE plain.namedE plain.asksOf lists.rangeList after
 plain-open = tt
 
 unfoldable made-open : Unit {0}

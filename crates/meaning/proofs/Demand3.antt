@@ -26,7 +26,6 @@ use Rattle.meaning.proofs.Pieces.{Within, Shows, SatisfiesFrom}
 use Rattle.meaning.proofs.Extension.{extension, extension-same, extension-shows, alike-on}
 use Rattle.meaning.proofs.LinesSay.{Kept, kept-blank}
 use Rattle.meaning.proofs.LineCarries.{carried}
-use Rattle.meaning.proofs.Sensible.{AllSensible, sensible-blank, sensible-after}
 use Rattle.meaning.proofs.Faultless.{Faultless, text-read}
 use Rattle.meaning.proofs.LineInduction.{after-one-more, names-declared, by-lines}
 use Rattle.meaning.proofs.LinesFit.{room-read}
@@ -130,23 +129,21 @@ module _ (top : ℕ) (ls : List Line) (names : List ℕ) (b : Problem) (f : Fait
   found d g h = f .every (λ n. g (placeOf names n)) g (by-point names d g) h
 
 -- ---- the sheets that are accepted
--- of the trees read so far: what is kept, that their rules are sensible, and that the sheet is what they make
+-- of the trees read so far: what is kept, and that the draft is what they make
 pub record SoFar (top : ℕ) (ls : List Line) (s : Draft) : Type 0 where
   pub kept : Kept top ls s
-  pub sensible : AllSensible ls s
   pub made : s ≡ draftOf top ls
 
 read-more : (top : ℕ) (ls : List Line) (s : Draft) (l : Line) → SoFar top ls s → Faultless top s l → SoFar top (ls ++ (l ∷ [])) (after top s l)
 read-more top ls s l r f =
     record {
       kept = carried top ls s l (r .kept) f;
-      sensible = sensible-after top ls s l (r .sensible) f;
       made = ap (λ (u : Draft). after top u l) (r .made) ∙ sym (after-one-more top blank ls l);
     }
 
 pub lines-trees : (top k : ℕ) (ts : List (List ℕ)) (s : Draft) → readLines top k blank ts ≡ read s → (ls : List Line) × (map tokensOf ts ≡ map spellLine ls) × SoFar top ls s
 lines-trees top k ts s e =
-    by-lines top (SoFar top) (λ ls s t l r spelt f. read-more top ls s l r f) ts k blank s [] (record { kept = kept-blank top; sensible = sensible-blank; made = refl }) e
+    by-lines top (SoFar top) (λ ls s t l r spelt f. read-more top ls s l r f) ts k blank s [] (record { kept = kept-blank top; made = refl }) e
 
 pub text-trees : (t : List ℕ) (s : Draft) → outcomeOf t ≡ read s → (ls : List Line) × Spells t ls × SoFar (topIn t) ls s
 text-trees t s e =

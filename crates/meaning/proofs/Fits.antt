@@ -1,5 +1,5 @@
--- What is accepted fits the caller's lists and passes the solver's grounds 1 to 5: each line left room, and as the lowest values have helpers in every range, no range is empty.
-use mathlib.Core.Path.{_≡_, sym, subst}
+-- What is accepted fits the caller's lists and fits the solver's grounds 1 to 5: each line left room, and as the lowest values have helpers in every range, no range is empty.
+use mathlib.Core.Path.{_≡_, sym, ap, subst, _∙_}
 use mathlib.Core.List.{List, [], _∷_, _++_}
 use Prim.Native.Nat.{ℕ, suc, _<_, _≤_}
 use native.Mathlib.Omega.{arith}
@@ -15,7 +15,9 @@ use Rattle.problem.specs.Lists.{problemOf}
 use Rattle.problem.specs.Grounds.{judgeOf}
 use Rattle.problem.specs.declared.Judged.the-variants.{Sound}
 use Rattle.meaning.specs.Lists.{rangeList, primitiveList, lengthList, literalList, literalsIn}
+use Rattle.meaning.specs.Plain.{placeOf}
 use Rattle.meaning.specs.Draft.{Draft, quantitiesIn, problemIn}
+use Rattle.meaning.specs.Fits.{Fits}
 use Rattle.meaning.specs.Grounds.{topOf, read, outcomeOf}
 use Rattle.meaning.proofs.Elements.{all-join, all-at}
 use Rattle.meaning.proofs.NamePlaces.{Distinct}
@@ -46,7 +48,7 @@ lowest-in d h =
     }
 
 -- ---- what is accepted
-pub record Fits (s : Draft) : Type 0 where
+pub record Passes (s : Draft) : Type 0 where
   pub many : length (s .names) ≡ length (s .declared)
   pub distinct : Distinct (s .names)
   pub some : 0 < length (s .names)
@@ -62,7 +64,7 @@ pub record Fits (s : Draft) : Type 0 where
   pub known : AllOf (Known (quantitiesIn s)) (s .made .primitives)
   pub good : AllOf (Good (quantitiesIn s)) (literalsIn (s .made .clauses))
 
-pub fits : (t : List ℕ) (s : Draft) → outcomeOf t ≡ read s → Fits s
+pub fits : (t : List ℕ) (s : Draft) → outcomeOf t ≡ read s → Passes s
 fits t s e =
     let r = text-read t s e in
     let h = room-read (topOf (r .version)) (omega arith) 2 _ s (r .lines) in
@@ -83,6 +85,21 @@ fits t s e =
       near = all-join NearEnds (s .declared) (s .made .ranges) (h .near) (h .near-made);
       known = h .known;
       good = h .good;
+    }
+
+-- as lists of full size see it
+pub room : (t : List ℕ) (s : Draft) → outcomeOf t ≡ read s → Fits s
+room t s e =
+    let f = fits t s e in
+    record {
+      ranges = omega (arith, f .few);
+      primitives = omega (arith, f .primitives);
+      lengths = omega (arith, f .clauses);
+      literals = omega (arith, f .literals);
+      names = omega (arith, f .names);
+      some = f .some;
+      many = f .many;
+      distinct = λ q r i j same. sym (f .distinct .found q i) ∙ ap (placeOf (s .names)) same ∙ f .distinct .found r j;
     }
 
 -- none of the solver's grounds 1 to 5

@@ -7,6 +7,7 @@ pub mod Definitions
 pub mod DefinitionSteps
 -- names and plain trees
 pub mod NamePlaces
+pub mod NameLetters
 pub mod PlainValues
 -- the numbers of a problem, and pieces of it
 pub mod FlatLists
@@ -24,12 +25,13 @@ pub mod Faultless
 pub mod LineInduction
 pub mod LinesSay
 pub mod LineCarries
-pub mod Sensible
 pub mod RangeLimits
 pub mod LinesFit
--- the promises: the grounds, demand 3, and that an accepted sheet fits
+-- the grounds, demand 3, and that an accepted sheet fits
 pub mod LineGrounds
 pub mod TextGrounds
 pub mod Demand3
 pub mod SolverGrounds
 pub mod Fits
+-- the promises
+pub mod Promises

@@ -131,13 +131,3 @@ room-after top m s t (when c cs d ds) h e f = room-rule s h (when c cs d ds) (li
 
 pub room-read : (top : ℕ) → top ≤ 1_000_000_000_000 → (k : ℕ) (ts : List (List ℕ)) (s : Draft) → readLines top k blank ts ≡ read s → Room s
 room-read top m k ts s e = by-lines top (λ ls s. Room s) (λ ls s t l h spelt f. room-after top m s t l h spelt f) ts k blank s [] room-blank e .2
-
--- what a sheet makes, whatever was declared, has room in lists of 256, 1,024, 256 and 3,072 numbers, and its names in 1,024 bytes
-pub record Bounds (s : Draft) : Type 0 where
-  pub names : length (s .names) ≤ 128
-  pub primitives : length (s .made .primitives) ≤ 128
-  pub clauses : length (s .made .clauses) ≤ 256
-  pub literals : length (literalsIn (s .made .clauses)) ≤ 512
-
-pub bounds : (s : Draft) → Room s → Bounds s
-bounds s h = omega (arith, h .many, h .few, h .small)

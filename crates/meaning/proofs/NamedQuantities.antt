@@ -13,9 +13,9 @@ use Rattle.problem.specs.declared.Literal.the-variants as literal
 use Rattle.sheet.specs.declared.Sign.{Sign}
 use Rattle.sheet.specs.declared.Sign.the-variants.{AtMost, Below, AtLeast, Above, Equal, Differ}
 use Rattle.meaning.specs.Plain.{Operation, sum, difference, product, Tree, constant, quantity, binary, square, Asked}
-use Rattle.meaning.specs.Translation.{sizeOf, placeIn, equation, pieceOf, gapOf, Turn, first, second, literalsFor, equalities, sizes, gaps, clauseOf, oneOrTwo, ruleOf}
+use Rattle.meaning.specs.Translation.{sizeOf, placeIn, equation, pieceOf, gapOf, Turn, first, second, literalsFor, equalities, gaps, clauseOf, oneOrTwo, ruleOf}
 use Rattle.meaning.specs.Lists.{literalsIn}
-use Rattle.meaning.proofs.Definitions.{opened}
+use Rattle.meaning.proofs.Definitions.{sizes, opened}
 use Rattle.meaning.proofs.Elements.{all-join}
 use Rattle.meaning.proofs.PlainValues.{Names}
 use Rattle.meaning.proofs.TreeValues.{Named}

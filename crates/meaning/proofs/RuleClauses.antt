@@ -18,12 +18,13 @@ use Rattle.sheet.specs.Meaning.{Compares}
 use Rattle.sheet.specs.declared.Sign.{Sign}
 use Rattle.sheet.specs.declared.Sign.the-variants.{AtMost, Below, AtLeast, Above, Equal, Differ}
 use Rattle.meaning.specs.Plain.{Asked}
-use Rattle.meaning.specs.Translation.{sizeOf, placeIn, gapOf, gaps, Turn, first, second, literalsFor, equal, equalities, clauseOf, oneOrTwo, sizes, ruleOf}
-use Rattle.meaning.proofs.Definitions.{opened}
+use Rattle.meaning.specs.Translation.{sizeOf, placeIn, gapOf, gaps, Turn, first, second, literalsFor, equal, equalities, clauseOf, oneOrTwo, ruleOf}
+use Rattle.meaning.proofs.Definitions.{sizes, opened}
+use Rattle.meaning.proofs.TreeSizes.{gaps-length}
 use Rattle.meaning.proofs.Elements.{all-join, each-join, one-left, one-right, one-split}
 use Rattle.meaning.proofs.PlainValues.{value}
 use Rattle.meaning.proofs.Pieces.{Within, Shows, SatisfiesFrom, join, fore, aft}
-use Rattle.meaning.proofs.TreeValues.{at-place, gap-values, gaps-length, Named, first-shows, rest-shows, gaps-there, gaps-back}
+use Rattle.meaning.proofs.TreeValues.{at-place, gap-values, Named, first-shows, rest-shows, gaps-there, gaps-back}
 
 -- what is asked is so
 abbrev pub Answers : Point → Asked → Type 0

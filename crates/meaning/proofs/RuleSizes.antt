@@ -1,55 +1,19 @@
 -- How many primitives, clauses and literals the rules make, by the number of their helpers: a comparison makes a helper, a helper at most one primitive, and a rule with m comparisons at most 4m clauses and literals together.
 use mathlib.Core.Path.{ap}
-use mathlib.Core.List.{List, [], _∷_, _++_}
+use mathlib.Core.List.{List, [], _++_}
 use Prim.Native.Nat.{ℕ, zero, suc, _+_, _*_, _<_, _≤_}
 use native.Mathlib.Omega.{arith}
 use lib.ListN.{length, length-append}
 use Rattle.whole.specs.declared.Range.{Range}
 use Rattle.problem.specs.declared.Literal.{Literal}
-use Rattle.sheet.specs.declared.Sign.{Sign}
-use Rattle.sheet.specs.declared.Sign.the-variants.{AtMost, Below, AtLeast, Above, Equal, Differ}
-use Rattle.meaning.specs.Plain.{Tree, constant, quantity, binary, square, Asked}
-use Rattle.meaning.specs.Translation.{Piece, nothing, _⋈_, sizeOf, placeIn, pieceOf, gapOf, Turn, first, second, literalsFor, equal, equalities, sizes, gaps, clauseOf, oneOrTwo, ruleOf}
+use Rattle.meaning.specs.Plain.{Asked}
+use Rattle.meaning.specs.Translation.{Piece, nothing, _⋈_, first, second, equalities, clauseOf, oneOrTwo, ruleOf}
 use Rattle.meaning.specs.Lists.{literalsIn}
-use Rattle.meaning.proofs.Definitions.{opened}
+use Rattle.meaning.proofs.Definitions.{sizes}
+use Rattle.meaning.proofs.TreeSizes.{gaps-primitives, at-least-one, clause-length}
 use Rattle.meaning.proofs.FlatLists.{literals-in-append}
 use Rattle.meaning.proofs.RuleClauses.{rule-size}
 use Rattle.meaning.proofs.DefinitionSteps.{rule-primitives, rule-clauses}
-
--- ---- each helper at most one primitive, each comparison a helper
-pub piece-primitives : (d : List Range) (k : ℕ) (t : Tree) → length (pieceOf d k t .primitives) ≤ sizeOf t
-unfolding opened
-piece-primitives d k (constant n) = omega arith
-piece-primitives d k (quantity q) = omega arith
-piece-primitives d k (binary o a b) = simp length-append (omega (arith, piece-primitives d k a, piece-primitives d (k + sizeOf a) b))
-piece-primitives d k (square a) = simp length-append (omega (arith, piece-primitives d k a))
-
-pub gaps-primitives : (d : List Range) (k : ℕ) (asked : List Asked) → length (gaps d k asked .primitives) ≤ sizes asked
-unfolding gaps sizes
-gaps-primitives d k [] = omega arith
-gaps-primitives d k (a ∷ more) =
-    omega (arith, length-append (pieceOf d k (gapOf a) .primitives) (gaps d (k + sizeOf (gapOf a)) more .primitives), piece-primitives d k (gapOf a), gaps-primitives d (k + sizeOf (gapOf a)) more)
-
-pub at-least-one : (asked : List Asked) → length asked ≤ sizes asked
-unfolding opened
-at-least-one [] = omega arith
-at-least-one (a ∷ more) = omega (arith, at-least-one more)
-
--- ---- literals: two for each comparison, but one for an equality demand
-literals-few : (t : Turn) (s : Sign) (q : ℕ) → length (literalsFor t s q) + equal s ≤ 2
-unfolding opened
-literals-few t AtMost q = omega arith
-literals-few t Below q = omega arith
-literals-few t AtLeast q = omega arith
-literals-few t Above q = omega arith
-literals-few t Equal q = omega arith
-literals-few t Differ q = omega arith
-
-pub clause-length : (t : Turn) (k : ℕ) (asked : List Asked) → length (clauseOf t k asked) + equalities asked ≤ 2 * length asked
-unfolding clauseOf equalities
-clause-length t k [] = omega arith
-clause-length t k (a ∷ more) =
-    omega (arith, length-append (literalsFor t (a .sign) (placeIn k (gapOf a))) (clauseOf t (k + sizeOf (gapOf a)) more), literals-few t (a .sign) (placeIn k (gapOf a)), clause-length t (k + sizeOf (gapOf a)) more)
 
 -- clauses and literals of a rule with m comparisons
 together : (n m : ℕ) (a b : List Literal) → 0 < m → length a + n ≤ 2 * m → length b + n ≤ 2 * m → length (oneOrTwo n a b) + length (literalsIn (oneOrTwo n a b)) ≤ 4 * m

@@ -12,7 +12,7 @@ use Rattle.sheet.specs.Lines.{linesOf, lineOf}
 use Rattle.sheet.specs.Grammar.{Line}
 use Rattle.sheet.specs.declared.Value.{Value}
 use Rattle.sheet.specs.declared.Value.the-variants.{Is, Not}
-use Rattle.meaning.specs.Draft.{Draft, blank, after, afterAll, draftOf, declaredIn}
+use Rattle.meaning.specs.Draft.{Draft, blank, after, afterAll, draftOf}
 use Rattle.meaning.specs.Grounds.{badText, firstLine, otherVersion, topOf, Outcome, refused, read, oneLine, readLines, someDeclared, behindFirst, byVersion, outcomeOf, refusalNumber}
 use Rattle.meaning.specs.Refused.{LineGround, FaultFree, FirstFault, RefusedAt, text, first, version, atLine, undeclared}
 use Rattle.meaning.specs.declared.Refusal.{Refusal}

@@ -8,55 +8,46 @@ use Rattle.whole.specs.declared.Range.{Range}
 use Rattle.sheet.specs.declared.Sign.{Sign}
 use Rattle.sheet.specs.declared.Sign.the-variants.{AtMost, Below, AtLeast, Above, Equal, Differ}
 use Rattle.meaning.specs.Plain.{Tree, constant, quantity, binary, square, Asked}
-use Rattle.meaning.specs.Translation.{sizeOf, placeIn, pieceOf, gapOf, Turn, first, second, literalsFor, sizes, gaps, clauseOf}
+use Rattle.meaning.specs.Translation.{sizeOf, placeIn, pieceOf, gapOf, Turn, first, second, literalsFor, equal, equalities, gaps, clauseOf}
+use Rattle.meaning.proofs.Definitions.{sizes, opened}
 
 -- ---- helpers and primitives
-pub pieces-length : (ds : List Range) (t : Tree) (k : ℕ) → length (pieceOf ds k t .ranges) ≡ sizeOf t
-unfolding pieceOf sizeOf
-pieces-length ds (constant n) k = refl
-pieces-length ds (quantity q) k = refl
-pieces-length ds (binary o a b) k =
-    let f = pieces-length ds a k in
-    let g = pieces-length ds b (k + sizeOf a) in
-    simp length-append (omega arith)
-pieces-length ds (square a) k = let f = pieces-length ds a k in simp length-append (omega arith)
+module _ (d : List Range) where
+  pub piece-length : (k : ℕ) (t : Tree) → length (pieceOf d k t .ranges) ≡ sizeOf t
+  unfolding opened
+  piece-length k (constant n) = refl
+  piece-length k (quantity q) = refl
+  piece-length k (binary o a b) = simp length-append (omega (arith, piece-length k a, piece-length (k + sizeOf a) b))
+  piece-length k (square a) = simp length-append (omega (arith, piece-length k a))
 
-pub few-primitives : (ds : List Range) (t : Tree) (k : ℕ) → length (pieceOf ds k t .primitives) ≤ sizeOf t
-unfolding pieceOf sizeOf
-few-primitives ds (constant n) k = omega arith
-few-primitives ds (quantity q) k = omega arith
-few-primitives ds (binary o a b) k =
-    let f = few-primitives ds a k in
-    let g = few-primitives ds b (k + sizeOf a) in
-    simp length-append (omega arith)
-few-primitives ds (square a) k = let f = few-primitives ds a k in simp length-append (omega arith)
+  pub piece-primitives : (k : ℕ) (t : Tree) → length (pieceOf d k t .primitives) ≤ sizeOf t
+  unfolding opened
+  piece-primitives k (constant n) = omega arith
+  piece-primitives k (quantity q) = omega arith
+  piece-primitives k (binary o a b) = simp length-append (omega (arith, piece-primitives k a, piece-primitives (k + sizeOf a) b))
+  piece-primitives k (square a) = simp length-append (omega (arith, piece-primitives k a))
 
-pub gaps-length : (ds : List Range) (xs : List Asked) (k : ℕ) → length (gaps ds k xs .ranges) ≡ sizes xs
-unfolding gaps sizes
-gaps-length ds [] k = refl
-gaps-length ds (x ∷ xs) k =
-    omega (
-      arith,
-      length-append (pieceOf ds k (gapOf x) .ranges) (gaps ds (k + sizeOf (gapOf x)) xs .ranges),
-      pieces-length ds (gapOf x) k,
-      gaps-length ds xs (k + sizeOf (gapOf x)),
-    )
+  pub gaps-length : (k : ℕ) (asked : List Asked) → length (gaps d k asked .ranges) ≡ sizes asked
+  unfolding gaps sizes
+  gaps-length k [] = refl
+  gaps-length k (a ∷ more) =
+      omega (arith, length-append (pieceOf d k (gapOf a) .ranges) (gaps d (k + sizeOf (gapOf a)) more .ranges), piece-length k (gapOf a), gaps-length (k + sizeOf (gapOf a)) more)
 
-pub few-all : (ds : List Range) (xs : List Asked) (k : ℕ) → length (gaps ds k xs .primitives) ≤ sizes xs
-unfolding gaps sizes
-few-all ds [] k = omega arith
-few-all ds (x ∷ xs) k =
-    omega (
-      arith,
-      length-append (pieceOf ds k (gapOf x) .primitives) (gaps ds (k + sizeOf (gapOf x)) xs .primitives),
-      few-primitives ds (gapOf x) k,
-      few-all ds xs (k + sizeOf (gapOf x)),
-    )
+  pub gaps-primitives : (k : ℕ) (asked : List Asked) → length (gaps d k asked .primitives) ≤ sizes asked
+  unfolding gaps sizes
+  gaps-primitives k [] = omega arith
+  gaps-primitives k (a ∷ more) =
+      omega (arith, length-append (pieceOf d k (gapOf a) .primitives) (gaps d (k + sizeOf (gapOf a)) more .primitives), piece-primitives k (gapOf a), gaps-primitives (k + sizeOf (gapOf a)) more)
 
--- ---- literals
--- a comparison has one literal or two in either clause
-pub literals-few : (t : Turn) (s : Sign) (q : ℕ) → length (literalsFor t s q) ≤ 2
-unfolding literalsFor
+-- each comparison makes a helper
+pub at-least-one : (asked : List Asked) → length asked ≤ sizes asked
+unfolding opened
+at-least-one [] = omega arith
+at-least-one (a ∷ more) = omega (arith, at-least-one more)
+
+-- ---- literals: two for each comparison, but one for an equality demand
+literals-few : (t : Turn) (s : Sign) (q : ℕ) → length (literalsFor t s q) + equal s ≤ 2
+unfolding opened
 literals-few t AtMost q = omega arith
 literals-few t Below q = omega arith
 literals-few t AtLeast q = omega arith
@@ -64,6 +55,16 @@ literals-few t Above q = omega arith
 literals-few t Equal q = omega arith
 literals-few t Differ q = omega arith
 
+pub clause-length : (t : Turn) (k : ℕ) (asked : List Asked) → length (clauseOf t k asked) + equalities asked ≤ 2 * length asked
+unfolding clauseOf equalities
+clause-length t k [] = omega arith
+clause-length t k (a ∷ more) =
+    omega (arith, length-append (literalsFor t (a .sign) (placeIn k (gapOf a))) (clauseOf t (k + sizeOf (gapOf a)) more), literals-few t (a .sign) (placeIn k (gapOf a)), clause-length t (k + sizeOf (gapOf a)) more)
+
+pub clause-few : (t : Turn) (k : ℕ) (asked : List Asked) → length (clauseOf t k asked) ≤ 2 * sizes asked
+clause-few t k asked = omega (arith, clause-length t k asked, at-least-one asked)
+
+-- in either clause as many
 pub literals-alike : (s : Sign) (q r : ℕ) → length (literalsFor first s q) ≡ length (literalsFor second s r)
 unfolding literalsFor
 literals-alike AtMost q r = refl
@@ -72,26 +73,3 @@ literals-alike AtLeast q r = refl
 literals-alike Above q r = refl
 literals-alike Equal q r = refl
 literals-alike Differ q r = refl
-
-pub clause-few : (t : Turn) (xs : List Asked) (k : ℕ) → length (clauseOf t k xs) ≤ 2 * sizes xs
-unfolding clauseOf sizes sizeOf
-clause-few t [] k = omega arith
-clause-few t (x ∷ xs) k =
-    omega (
-      arith,
-      length-append (literalsFor t (x .sign) (placeIn k (gapOf x))) (clauseOf t (k + sizeOf (gapOf x)) xs),
-      literals-few t (x .sign) (placeIn k (gapOf x)),
-      clause-few t xs (k + sizeOf (gapOf x)),
-    )
-
-pub clause-alike : (xs : List Asked) (k : ℕ) → length (clauseOf first k xs) ≡ length (clauseOf second k xs)
-unfolding clauseOf
-clause-alike [] k = refl
-clause-alike (x ∷ xs) k =
-    omega (
-      arith,
-      length-append (literalsFor first (x .sign) (placeIn k (gapOf x))) (clauseOf first (k + sizeOf (gapOf x)) xs),
-      length-append (literalsFor second (x .sign) (placeIn k (gapOf x))) (clauseOf second (k + sizeOf (gapOf x)) xs),
-      literals-alike (x .sign) (placeIn k (gapOf x)) (placeIn k (gapOf x)),
-      clause-alike xs (k + sizeOf (gapOf x)),
-    )

@@ -15,8 +15,9 @@ use Rattle.problem.specs.Problem.{Holds}
 use Rattle.problem.specs.declared.Primitive.{Primitive}
 use Rattle.problem.specs.declared.Primitive.the-variants.{Square}
 use Rattle.meaning.specs.Plain.{Operation, sum, difference, product, Tree, constant, quantity, binary, square, Asked}
-use Rattle.meaning.specs.Translation.{_⋈_, spanFor, rangeOf, sizeOf, placeIn, equation, helper, pieceOf, gapOf, sizes, gaps}
-use Rattle.meaning.proofs.Definitions.{opened}
+use Rattle.meaning.specs.Translation.{_⋈_, spanFor, rangeOf, sizeOf, placeIn, equation, helper, pieceOf, gapOf, gaps}
+use Rattle.meaning.proofs.Definitions.{sizes, opened}
+use Rattle.meaning.proofs.TreeSizes.{piece-length}
 use Rattle.meaning.proofs.Elements.{each-at}
 use Rattle.meaning.proofs.PlainValues.{result, value, Names}
 use Rattle.meaning.proofs.Pieces.{Within, Shows, SatisfiesFrom, join, fore, aft, shows-left, shows-right, shows-join}
@@ -42,13 +43,6 @@ values p (constant n) = pos n ∷ []
 values p (quantity q) = []
 values p (binary o a b) = (values p a ++ values p b) ++ (value p (binary o a b) ∷ [])
 values p (square a) = values p a ++ (value p (square a) ∷ [])
-
-pub piece-length : (d : List Range) (k : ℕ) (t : Tree) → length (pieceOf d k t .ranges) ≡ sizeOf t
-unfolding opened
-piece-length d k (constant n) = refl
-piece-length d k (quantity q) = refl
-piece-length d k (binary o a b) = simp length-append (omega (arith, piece-length d k a, piece-length d (k + sizeOf a) b))
-piece-length d k (square a) = simp length-append (omega (arith, piece-length d k a))
 
 pub values-length : (p : Point) (t : Tree) → length (values p t) ≡ sizeOf t
 unfolding opened
@@ -149,12 +143,6 @@ pub gap-values-length : (p : Point) (asked : List Asked) → length (gap-values 
 unfolding sizes
 gap-values-length p [] = refl
 gap-values-length p (a ∷ more) = omega (arith, length-append (values p (gapOf a)) (gap-values p more), values-length p (gapOf a), gap-values-length p more)
-
-pub gaps-length : (d : List Range) (k : ℕ) (asked : List Asked) → length (gaps d k asked .ranges) ≡ sizes asked
-unfolding sizes gaps
-gaps-length d k [] = refl
-gaps-length d k (a ∷ more) =
-    omega (arith, length-append (pieceOf d k (gapOf a) .ranges) (gaps d (k + sizeOf (gapOf a)) more .ranges), piece-length d k (gapOf a), gaps-length d (k + sizeOf (gapOf a)) more)
 
 module _ (p : Point) (k : ℕ) (a : Asked) (more : List Asked) where
   pub first-shows : Shows p k (gap-values p (a ∷ more)) → Shows p k (values p (gapOf a))

@@ -1,4 +1,4 @@
--- What a translation is, in reading order: trees, what they make, the draft of a problem, its lists, the grounds, and demand 3.
+-- What a translation is, in reading order: trees, what they make, the draft of a problem, its lists, the grounds, demand 3, and what is promised.
 pub mod Plain
 pub mod Translation
 pub mod Lists
@@ -6,3 +6,5 @@ pub mod Draft
 pub mod Grounds
 pub mod Refused
 pub mod Demand3
+pub mod Fits
+pub mod Promises

@@ -1,5 +1,5 @@
 -- A piece of a problem as lists of numbers, and names as bytes, as the caller's buffers get them.
-use mathlib.Core.Bool.{Bool, cond}
+use mathlib.Core.Bool.{cond}
 use mathlib.Core.List.{List, [], _∷_, _++_}
 use Prim.Native.Nat.{ℕ, zero, suc, _-_, _/_, _%_}
 use lib.Dec.{eqb}

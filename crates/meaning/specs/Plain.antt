@@ -1,9 +1,10 @@
 -- Plain trees: an expression without brackets and ranks, its names replaced by the numbers of their quantities.
 use mathlib.Core.Bool.{Bool, true, false, cond, _||_, _&&_}
 use mathlib.Core.List.{List, [], _∷_, _++_, map}
-use Prim.Native.Nat.{ℕ, zero, suc}
+use Prim.Native.Nat.{ℕ, suc}
 use lib.Dec.{eqb}
-use Rattle.sheet.specs.Grammar.{Expr, one, plus, minus, Term, lone, times, Factor, bare, squared, Atom, number, name, bracket, Comparison, Line, ranged, default, must, when}
+use Rattle.sheet.specs.Grammar.{Expr, one, plus, minus, Term, lone, times, Factor, bare, squared, Atom, number, name, bracket}
+use Rattle.sheet.specs.Grammar.{Comparison, Line, ranged, default, must, when}
 use Rattle.sheet.specs.declared.Sign.{Sign}
 use Rattle.sheet.specs.declared.Sign.the-variants.{AtMost, Below, AtLeast, Above, Equal, Differ}
 

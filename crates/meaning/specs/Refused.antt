@@ -11,7 +11,8 @@ use Rattle.sheet.specs.Depth.{tooDeep}
 use Rattle.sheet.specs.Grammar.{Line, spellLine}
 use Rattle.sheet.specs.declared.Value.the-variants.{Is, Not}
 use Rattle.meaning.specs.Draft.{Draft, blank, after, draftOf, declaredIn}
-use Rattle.meaning.specs.Grounds.{badText, firstLine, otherVersion, topOf, lateRange, badNames, badOrder, manyDemands, helperBeyond, manyQuantities, behindFirst}
+use Rattle.meaning.specs.Grounds.{badText, firstLine, otherVersion, topOf, behindFirst}
+use Rattle.meaning.specs.Grounds.{lateRange, badNames, badOrder, manyDemands, helperBeyond, manyQuantities}
 
 -- the grounds of a line behind lines that made the draft s, by document 01's number
 pub data LineGround (top : ℕ) (s : Draft) (l : List ℕ) : ℕ → Type 0 where

@@ -1,9 +1,8 @@
 -- From what a rule asks to helpers, primitives and clauses: document 01, "Translation".
-use mathlib.Core.Bool.{Bool, cond}
 use mathlib.Core.List.{List, [], _∷_, _++_}
 use Prim.Native.Nat.{ℕ, zero, suc, _+_}
-use lib.ListN.{length, getD}
-use lib.IntN.{ℤ, pos, negsuc}
+use lib.ListN.{getD}
+use lib.IntN.{pos, negsuc}
 use Rattle.whole.specs.Ranges.{range, sumSpan, differenceSpan, productSpan, squareSpan}
 use Rattle.whole.specs.declared.Range.{Range}
 use Rattle.problem.specs.declared.Primitive.{Primitive}
@@ -109,11 +108,7 @@ unfoldable pub equalities : List Asked → ℕ
 equalities [] = 0
 equalities (a ∷ more) = equal (a .sign) + equalities more
 
--- the number of helpers
-unfoldable pub sizes : List Asked → ℕ
-sizes [] = 0
-sizes (a ∷ more) = sizeOf (gapOf a) + sizes more
-
+-- the helpers of what is asked, one comparison behind the other
 unfoldable pub gaps : List Range → ℕ → List Asked → Piece
 gaps d k [] = nothing
 gaps d k (a ∷ more) = pieceOf d k (gapOf a) ⋈ gaps d (k + sizeOf (gapOf a)) more

@@ -1,12 +1,12 @@
 -- The clauses of a rule put behind those before: one length and the literals that stand there already, or two lengths and the second literals behind the first.
 use mathlib.Core.Path.{_≡_, refl, sym, ap, _∙_}
 use mathlib.Core.Bool.{true}
-use mathlib.Core.List.{List, [], _∷_, _++_, append-nil}
+use mathlib.Core.List.{List, append-nil}
 use Prim.Native.Nat.{ℕ, _+_, _-_, _*_, _≤_}
 use native.Mathlib.Numerals.{add-one}
 use native.Mathlib.Omega.{arith}
 use lib.IntN.{ℤ, pos}
-use lib.ListN.{length, take, set, length-append, length-drop, length-take}
+use lib.ListN.{length, take, set, length-append}
 use lib.Seq.{length-take-le, take-suc-set, take-at}
 use borrow.Author.Tests.{eq-eqb, ne-eqb}
 use borrow.Rule.Slice.PartMut.{midOf, putMid}
@@ -17,7 +17,7 @@ use Rattle.translate.specs.Translate.{filled}
 use Rattle.translate.specs.declared.parts.Making.{Making}
 use Rattle.translate.specs.declared.parts.Progress.{Progress}
 use Rattle.translate.specs.inner.Stored.{Appended, Roomy}
-use Rattle.translate.proofs.Filling.{fill-length, part-front}
+use Rattle.translate.proofs.Filling.{part-front}
 use Rattle.translate.proofs.ListFronts.{take-two}
 
 module _ (g : Progress) (m : Making) (c e : ℕ) (ns ls seconds : List ℤ) (room : Roomy g c ns ls seconds) where

@@ -23,7 +23,7 @@ use Rattle.meaning.specs.Grounds.{anyBeyond}
 use Rattle.translate.specs.inner.Emission.{bump, kept, putPrimitive, Emit, another, operated, joined, squaredOf, emit}
 use Rattle.translate.specs.declared.parts.Making.{Making}
 use Rattle.translate.proofs.ListFronts.{front-range, put-range-keeps, put-range-length}
-use Rattle.meaning.proofs.TreeSizes.{few-primitives}
+use Rattle.meaning.proofs.TreeSizes.{piece-primitives}
 use Rattle.translate.proofs.PutBehind.{SmallPrimitive, bump-is, range-next, primitive-next, put-primitive-length}
 use Rattle.translate.proofs.Flags.{or-false, strange}
 use Rattle.translate.proofs.HelperRanges.{Ordered, any-append, ordered-good, good-bad, good-kept, declared-good, range-ordered}
@@ -134,7 +134,7 @@ square-wrote {ds} {ws} {vs} {k} a {x} i good u c =
     let A = pieceOf ds k a in
     let r = squareSpan (rangeOf ds a) in
     let l = length-append vs (A .primitives) in
-    let f = few-primitives ds a k in
+    let f = piece-primitives ds k a in
     record {
       ready =
           ready-as (append-assoc ws (A .ranges) (r ∷ [])) (append-assoc vs (A .primitives) (Square (k + sizeOf a) (placeIn k a) ∷ [])) (omega arith)
@@ -156,8 +156,8 @@ both-wrote {ds} {ws} {vs} {k} o a b {x} {y} i j good u c =
     let e : y .making .used ≡ h = j .ready .used ∙ omega arith in
     let l = length-append vs (A .primitives) in
     let n = length-append (vs ++ A .primitives) (B .primitives) in
-    let f = few-primitives ds a k in
-    let g = few-primitives ds b (k + sizeOf a) in
+    let f = piece-primitives ds k a in
+    let g = piece-primitives ds (k + sizeOf a) b in
     record {
       ready =
           ready-as (simp append-assoc) (simp append-assoc) (omega arith)
@@ -198,7 +198,7 @@ module _ (ds : List Range) (good : AllOf Good ds) where
       let j = either-off (anyBeyond (A .ranges)) (anyBeyond (B .ranges)) (sym (any-append (A .ranges) (B .ranges)) ∙ l .before) in
       let i = wrote a ready (h .0) (j .0) (omega arith) (omega arith) in
       let n = length-append vs (A .primitives) in
-      let f = few-primitives ds a k in
+      let f = piece-primitives ds k a in
       both-wrote o a b i (wrote b (i .ready) (h .1) (j .1) (omega arith) (omega arith)) (l .good) u c
   wrote (square a) {ws} {vs} {k} {rs} {ps} {m} ready s e u c =
       let l = last-of (pieceOf ds k a .ranges) (squareSpan (rangeOf ds a)) (range-ordered ds good (square a)) e in

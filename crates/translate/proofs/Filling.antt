@@ -4,7 +4,7 @@ use mathlib.Core.List.{List, [], _∷_, _++_, append-assoc, append-nil}
 use Prim.Native.Nat.{ℕ, zero, suc, _+_, _-_, _*_, _/_, _%_, _≤_, _<_}
 use native.Mathlib.Numerals.{add-one}
 use native.Mathlib.Omega.{arith}
-use lib.ListN.{length, getD, take, drop, set, replicate, length-append, length-drop, drop-of-length-le}
+use lib.ListN.{length, getD, take, drop, set, replicate, length-append, drop-of-length-le}
 use lib.Seq.{length-take-le, drop-cons, drop-drop, take-suc, take-all, take-append-add, take-append-le, take-at, drop-at, append-snoc, set-append-seam}
 use borrow.Author.Tests.{ne-eqb}
 use borrow.Rule.Slice.PartMut.{putMid}
@@ -14,9 +14,6 @@ use Rattle.translate.specs.inner.Letters.{Letters}
 use Rattle.meaning.proofs.FlatLists.{names-append, names-length, letters-length, padded-length}
 
 module _ {A : Type 0} where
-  pub fill-length : (xs old : List A) → length xs ≤ length old → length (filled xs old) ≡ length old
-  fill-length xs old h = simp (length-append, length-drop) (omega arith)
-
   pub fill-next : (xs old : List A) (n : ℕ) (v d : A) → n ≡ length xs → length xs < length old → set (filled xs old) n v ≡ filled (xs ++ (v ∷ [])) old
   fill-next xs old n v d e h =
       let m : length (xs ++ (v ∷ [])) ≡ suc (length xs) = length-append xs (v ∷ []) ∙ add-one (length xs) in

@@ -34,5 +34,8 @@ pub mod LineCode
 pub mod WalkCode
 pub mod AcceptCode
 pub mod TextCode
--- the public call
+-- the public call: its contract read back, and the promises
+pub mod AcceptedFronts
+pub mod AnswerMeans
 pub mod Once
+pub mod Promises

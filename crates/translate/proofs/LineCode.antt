@@ -1,9 +1,9 @@
 -- One line: too deep (23), or by its first token a range line, a rule, or none of the forms (24).
 use mathlib.Core.Path.{_≡_, refl, sym, ap, _∙_}
-use mathlib.Core.Bool.{Bool, true, false}
+use mathlib.Core.Bool.{true, false}
 use mathlib.Core.List.{List, [], _∷_}
 use mathlib.Core.Option.{Option, none}
-use Prim.Native.Nat.{ℕ, suc, _+_, _*_, _≤_}
+use Prim.Native.Nat.{ℕ, _+_, _*_, _≤_}
 use native.Mathlib.Omega.{arith}
 use lib.Dec.{eqb}
 use lib.IntN.{ℤ}
@@ -13,7 +13,7 @@ use denote.Enum.Declared.{tagOf}
 use Rattle.sheet.specs.Tokens.{tokensOf}
 use Rattle.sheet.specs.Depth.{tooDeep}
 use Rattle.sheet.specs.Grammar.{Line}
-use Rattle.sheet.specs.Reading.{tokenNo, headOf, restOf, headNo, readRange, readLine}
+use Rattle.sheet.specs.Reading.{tokenNo, headOf, restOf, readRange, readLine}
 use Rattle.sheet.specs.inner.Steps.{tokensFrom}
 use Rattle.sheet.specs.declared.Mark.{Mark}
 use Rattle.sheet.specs.declared.Mark.the-variants.{Open, Close, Plus, Minus, Times, Square, AtMost, Below, AtLeast, Above, Equal, Differ, Range, Must, If, Then, And, Or}
@@ -22,8 +22,7 @@ use Rattle.sheet.specs.declared.Token.the-variants.{Number, Negative, Name, Fix
 use Rattle.sheet.proofs.Steps.{from-start}
 use Rattle.sheet.proofs.Token as token
 use Rattle.sheet.proofs.Mark as mark
-use Rattle.meaning.specs.Draft.{Draft}
-use Rattle.meaning.specs.Grounds.{oneLine, refused}
+use Rattle.meaning.specs.Grounds.{oneLine}
 use Rattle.meaning.specs.declared.Refusal.the-variants as refusal
 use Rattle.translate.specs.declared.parts.Progress.{Progress}
 use Rattle.translate.specs.declared.parts.Lined.{Lined}

@@ -43,29 +43,6 @@ put-range-keeps l i n r h = go (ltb i 128)
     go true = take-set-le n (set l (2 * i) (r .low)) (2 * i + 1) (r .high) (omega arith) ∙ take-set-le n l (2 * i) (r .low) h
     go false = refl
 
-pub put-four-keeps : (l : List ℤ) (i n : ℕ) (k z x y : ℤ) → n ≤ 4 * i → take n (putFour l i k z x y) ≡ take n l
-unfolding putFour
-put-four-keeps l i n k z x y h = go (ltb i 256)
-  where
-    go : (b : Bool) → take n (cond b (set (set (set (set l (4 * i) k) (4 * i + 1) z) (4 * i + 2) x) (4 * i + 3) y) l) ≡ take n l
-    go true =
-        take-set-le n (set (set (set l (4 * i) k) (4 * i + 1) z) (4 * i + 2) x) (4 * i + 3) y (omega arith)
-        ∙ take-set-le n (set (set l (4 * i) k) (4 * i + 1) z) (4 * i + 2) x (omega arith)
-        ∙ take-set-le n (set l (4 * i) k) (4 * i + 1) z (omega arith)
-        ∙ take-set-le n l (4 * i) k h
-    go false = refl
-
-pub put-three-keeps : (l : List ℤ) (i n : ℕ) (q s c : ℤ) → n ≤ 3 * i → take n (putThree l i q s c) ≡ take n l
-unfolding putThree
-put-three-keeps l i n q s c h = go (ltb i 1024)
-  where
-    go : (b : Bool) → take n (cond b (set (set (set l (3 * i) q) (3 * i + 1) s) (3 * i + 2) c) l) ≡ take n l
-    go true =
-        take-set-le n (set (set l (3 * i) q) (3 * i + 1) s) (3 * i + 2) c (omega arith)
-        ∙ take-set-le n (set l (3 * i) q) (3 * i + 1) s (omega arith)
-        ∙ take-set-le n l (3 * i) q h
-    go false = refl
-
 -- ---- no write changes the length
 pub put-range-length : (l : List ℤ) (i : ℕ) (r : Range) → length (putRange l i r) ≡ length l
 unfolding putRange

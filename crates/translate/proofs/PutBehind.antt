@@ -16,7 +16,7 @@ use Rattle.problem.specs.declared.Literal.the-variants.{AtMost, AtLeast}
 use Rattle.meaning.specs.Lists.{rangeList, primitiveList, literalList}
 use Rattle.translate.specs.inner.Emission.{bump, small, putRange, putPrimitive, putLiteral, putLiterals, countLiterals}
 use Rattle.meaning.proofs.FlatLists.{ranges-append, primitives-append, literals-append}
-use Rattle.translate.proofs.ListFronts.{put-range-next, put-four-next, put-three-next, put-four-keeps, put-three-keeps, put-four-length, put-three-length}
+use Rattle.translate.proofs.ListFronts.{put-range-next, put-four-next, put-three-next, put-four-length, put-three-length}
 
 -- ---- ranges
 pub range-next : (l : List ℤ) (i : ℕ) (r : Range) (ws : List Range) → i < 128 → 2 * (i + 1) ≤ length l → take (2 * i) l ≡ rangeList ws → take (2 * (i + 1)) (putRange l i r) ≡ rangeList (ws ++ (r ∷ []))
@@ -32,11 +32,6 @@ abbrev pub SmallPrimitive : Primitive → Type 0
 SmallPrimitive (Sum z x y) = (z < 20_000) × (x < 20_000) × (y < 20_000)
 SmallPrimitive (Product z x y) = (z < 20_000) × (x < 20_000) × (y < 20_000)
 SmallPrimitive (Square z x) = (z < 20_000) × (x < 20_000)
-
-pub put-primitive-keeps : (l : List ℤ) (i n : ℕ) (p : Primitive) → n ≤ 4 * i → take n (putPrimitive l i p) ≡ take n l
-put-primitive-keeps l i n (Sum z x y) h = put-four-keeps l i n (pos 1) (pos (small z)) (pos (small x)) (pos (small y)) h
-put-primitive-keeps l i n (Product z x y) h = put-four-keeps l i n (pos 2) (pos (small z)) (pos (small x)) (pos (small y)) h
-put-primitive-keeps l i n (Square z x) h = put-four-keeps l i n (pos 3) (pos (small z)) (pos (small x)) (pos 0) h
 
 pub put-primitive-length : (l : List ℤ) (i : ℕ) (p : Primitive) → length (putPrimitive l i p) ≡ length l
 put-primitive-length l i (Sum z x y) = put-four-length l i (pos 1) (pos (small z)) (pos (small x)) (pos (small y))
@@ -60,10 +55,6 @@ primitive-next l i p vs h k s e =
 abbrev pub SmallLiteral : Literal → Type 0
 SmallLiteral (AtMost q c) = q < 20_000
 SmallLiteral (AtLeast q c) = q < 20_000
-
-pub put-literal-keeps : (l : List ℤ) (i n : ℕ) (x : Literal) → n ≤ 3 * i → take n (putLiteral l i x) ≡ take n l
-put-literal-keeps l i n (AtMost q c) h = put-three-keeps l i n (pos (small q)) (pos 0) c h
-put-literal-keeps l i n (AtLeast q c) h = put-three-keeps l i n (pos (small q)) (pos 1) c h
 
 pub put-literal-length : (l : List ℤ) (i : ℕ) (x : Literal) → length (putLiteral l i x) ≡ length l
 put-literal-length l i (AtMost q c) = put-three-length l i (pos (small q)) (pos 0) c

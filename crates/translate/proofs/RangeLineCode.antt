@@ -2,13 +2,13 @@
 -- are put behind those before, and the lists hold the sheet with the line.
 use mathlib.Core.Path.{_≡_, refl, sym, ap, _∙_}
 use mathlib.Core.Bool.{Bool, true, false, cond, _&&_}
-use mathlib.Core.List.{List, [], _∷_, _++_}
+use mathlib.Core.List.{List, [], _∷_}
 use mathlib.Core.Option.{Option, none, some}
-use Prim.Native.Nat.{ℕ, zero, suc, _+_, _-_, _*_, _≤_, _<_}
+use Prim.Native.Nat.{ℕ, _+_, _≤_, _<_}
 use native.Mathlib.Numerals.{add-one}
 use native.Mathlib.Omega.{arith}
 use lib.Dec.{eqb, ltb}
-use lib.IntN.{ℤ, pos, negsuc}
+use lib.IntN.{ℤ, pos}
 use lib.ListN.{length, take, set, length-append}
 use lib.Seq.{take-suc-set}
 use lib.Signed.{ltZ}
@@ -16,7 +16,6 @@ use borrow.Author.Tests.{lt-ltb, le-ltb}
 use Rattle.whole.specs.Lists.{AllOf}
 use Rattle.whole.specs.Numbers.{Near}
 use Rattle.whole.specs.Ranges.{range}
-use Rattle.whole.specs.inner.Held.{Good}
 use Rattle.whole.proofs.Kit.{ints, at, rn}
 use Rattle.sheet.specs.Grammar.{Line, ranged, default, must, when}
 use Rattle.sheet.specs.Reading.{tokenNo, payload, signedOf, isSigned, readRange}
@@ -24,24 +23,22 @@ use Rattle.sheet.specs.inner.Contents.{Proper}
 use Rattle.sheet.specs.inner.Forms.{declarationOf}
 use Rattle.sheet.specs.declared.Token.{Token}
 use Rattle.sheet.specs.declared.Token.the-variants.{Number, Negative, Name, Fixed, Bad}
-use Rattle.sheet.specs.declared.Declaration.{Declaration}
 use Rattle.sheet.specs.declared.Declaration.the-variants.{Plain, Ranged, No}
 use Rattle.meaning.specs.Plain.{placeOf, isIn, asksOf}
 use Rattle.meaning.specs.Translation.{gaps, equalities}
 use Rattle.meaning.specs.Draft.{Draft, quantitiesIn, declare, after}
-use Rattle.meaning.specs.Grounds.{anyBeyond, treeFault, Outcome, refused, read, orRefused, topOf}
+use Rattle.meaning.specs.Grounds.{anyBeyond, treeFault, refused, read, orRefused, topOf}
 use Rattle.meaning.specs.declared.Refusal.{Refusal}
 use Rattle.meaning.specs.declared.Refusal.the-variants as refusal
 use Rattle.translate.specs.declared.parts.Progress.{Progress}
 use Rattle.translate.specs.declared.parts.Lined.{Lined}
 use Rattle.translate.specs.declared.parts.Lined.the-variants.{Next, Refused}
 use Rattle.translate.specs.inner.Emission.{putRange}
-use Rattle.translate.specs.inner.Stored as held
 use Rattle.translate.specs.inner.Stored.{Stored, Answers, treeBy, DeclaresIn}
 use Rattle.translate.proofs.Flags.{is-in-is}
 use Rattle.translate.proofs.ListFronts.{put-range-next}
 use Rattle.translate.proofs.RuleDraft.{proper-declare}
-use Rattle.translate.proofs.RangeHeld.{Declared, stored-declared}
+use Rattle.translate.proofs.RangeHeld.{stored-declared}
 
 -- ---- numbers within plus or minus M are read as they are
 pub near-at : {z : ℤ} → Near z → Near (at z)

@@ -1,9 +1,9 @@
 -- A sheet with one rule more: what it made before, then the rule's helpers, primitives and clauses. A comparison makes at least one helper, and at most
 -- one primitive for each helper and two literals in each of at most two clauses; so as long as the helpers have room, all have.
-use mathlib.Core.Path.{_≡_, refl, ap, ap₂, _∙_}
-use mathlib.Core.Bool.{false, true≢false}
+use mathlib.Core.Path.{_≡_, refl, ap, _∙_}
+use mathlib.Core.Bool.{true≢false}
 use mathlib.Core.List.{List, [], _∷_, _++_, append-nil}
-use Prim.Native.Nat.{ℕ, zero, suc, _+_, _*_, _≤_}
+use Prim.Native.Nat.{ℕ, zero, suc, _+_, _≤_}
 use native.Mathlib.Omega.{arith}
 use lib.ListN.{length, length-append}
 use Rattle.whole.specs.Lists.{AllOf}
@@ -12,27 +12,16 @@ use Rattle.whole.specs.declared.Range.{Range}
 use Rattle.problem.specs.declared.Primitive.{Primitive}
 use Rattle.problem.specs.declared.Literal.{Literal}
 use Rattle.sheet.specs.Grammar.{Line, ranged, default, must, when}
-use Rattle.meaning.specs.Plain.{Tree, constant, quantity, binary, square, Asked, asksOf}
-use Rattle.meaning.specs.Translation.{Piece, nothing, sizeOf, pieceOf, gapOf, first, second, equalities, sizes, gaps, clauseOf, oneOrTwo, ruleOf}
+use Rattle.meaning.specs.Plain.{Asked, asksOf}
+use Rattle.meaning.specs.Translation.{Piece, sizeOf, first, second, equalities, gaps, clauseOf, oneOrTwo, ruleOf}
 use Rattle.meaning.specs.Lists.{literalsIn}
 use Rattle.meaning.specs.Draft.{Draft, blank, quantitiesIn, declare, rule, after}
 pub use Rattle.translate.specs.inner.Stored.{Proper}
 use Rattle.meaning.proofs.FlatLists.{literals-in-append}
 use Rattle.translate.proofs.Flags.{IsRule}
-use Rattle.meaning.proofs.TreeSizes.{gaps-length, few-all, clause-few}
-
--- a tree makes no clause, nor do the comparisons' differences
-piece-clauses : (ds : List Range) (t : Tree) (k : ℕ) → pieceOf ds k t .clauses ≡ []
-unfolding pieceOf
-piece-clauses ds (constant n) k = refl
-piece-clauses ds (quantity q) k = refl
-piece-clauses ds (binary o a b) k = rw (piece-clauses ds a k, piece-clauses ds b (k + sizeOf a))
-piece-clauses ds (square a) k = rw (piece-clauses ds a k)
-
-gaps-clauses : (ds : List Range) (xs : List Asked) (k : ℕ) → gaps ds k xs .clauses ≡ []
-unfolding gaps
-gaps-clauses ds [] k = refl
-gaps-clauses ds (x ∷ xs) k = ap₂ _++_ (piece-clauses ds (gapOf x) k) (gaps-clauses ds xs (k + sizeOf (gapOf x)))
+use Rattle.meaning.proofs.Definitions.{sizes}
+use Rattle.meaning.proofs.DefinitionSteps.{gaps-clauses}
+use Rattle.meaning.proofs.TreeSizes.{gaps-length, gaps-primitives, clause-few}
 
 -- ---- a rule more
 -- what the rule asks for, its helpers, and its one or two clauses
@@ -59,10 +48,10 @@ module _ (s : Draft) (x : Line) where
 
   pub rule-clauses : rule s x .made .clauses ≡ s .made .clauses ++ oneOrTwo (equalities (asked s x)) (firstOf s x) (secondOf s x)
   unfolding ruleOf
-  rule-clauses = ap (λ (l : List (List Literal)). s .made .clauses ++ (l ++ oneOrTwo (equalities (asked s x)) (firstOf s x) (secondOf s x))) (gaps-clauses (s .declared) (asked s x) (quantitiesIn s))
+  rule-clauses = ap (λ (l : List (List Literal)). s .made .clauses ++ (l ++ oneOrTwo (equalities (asked s x)) (firstOf s x) (secondOf s x))) (gaps-clauses (s .declared) (quantitiesIn s) (asked s x))
 
   pub rule-helpers : length (rule s x .made .ranges) ≡ length (s .made .ranges) + sizes (asked s x)
-  rule-helpers = ap length rule-ranges ∙ omega (arith, length-append (s .made .ranges) (added s x .ranges), gaps-length (s .declared) (asked s x) (quantitiesIn s))
+  rule-helpers = ap length rule-ranges ∙ omega (arith, length-append (s .made .ranges) (added s x .ranges), gaps-length (s .declared) (quantitiesIn s) (asked s x))
 
   pub rule-quantities : quantitiesIn (rule s x) ≡ quantitiesIn s + sizes (asked s x)
   rule-quantities = omega (arith, rule-helpers)
@@ -116,7 +105,7 @@ proper-rule s x r p =
         p .primitives,
         ap length (rule-primitives s x),
         length-append (s .made .primitives) (added s x .primitives),
-        few-all (s .declared) (asked s x) (quantitiesIn s),
+        gaps-primitives (s .declared) (quantitiesIn s) (asked s x),
       );
       clauses = omega (
         arith,
@@ -133,8 +122,8 @@ proper-rule s x r p =
         ap length (literals-in-append (s .made .clauses) c),
         length-append (literalsIn (s .made .clauses)) (literalsIn c),
         literals-of (equalities (asked s x)) (firstOf s x) (secondOf s x),
-        clause-few first (asked s x) (quantitiesIn s),
-        clause-few second (asked s x) (quantitiesIn s),
+        clause-few first (quantitiesIn s) (asked s x),
+        clause-few second (quantitiesIn s) (asked s x),
       );
       unruled = λ e. absurd (true≢false e);
     }

@@ -4,29 +4,28 @@ use mathlib.Core.Path.{_≡_, refl, sym, ap, subst, _∙_}
 use mathlib.Core.Bool.{Bool, true, false, cond}
 use mathlib.Core.List.{List, _++_, append-nil, append-assoc}
 use mathlib.Core.Option.{Option, none, some}
-use Prim.Native.Nat.{ℕ, zero, suc, _+_, _-_, _*_, _≤_, _<_}
+use Prim.Native.Nat.{ℕ, _+_, _-_, _*_, _≤_, _<_}
 use native.Mathlib.Omega.{arith}
-use lib.Dec.{eqb, ltb}
-use lib.IntN.{ℤ, pos}
-use lib.ListN.{length, take, drop, replicate, length-drop, length-take}
-use borrow.Author.Tests.{lt-ltb, le-ltb, eqb-true, eqb-false}
+use lib.Dec.{eqb}
+use lib.IntN.{ℤ}
+use lib.ListN.{length, take}
+use borrow.Author.Tests.{lt-ltb, le-ltb}
 use borrow.Rule.Slice.PartMut.{midOf, putMid, mid-len, same-len-mid}
-use Rattle.sheet.specs.Grammar.{Comparison, Line, ranged, default, must, when}
+use Rattle.sheet.specs.Grammar.{Comparison, Line, must, when}
 use Rattle.sheet.specs.Reading.{Read, asMust, asWhen, «whole», allF, thenOf, headNo, restOf}
 use Rattle.sheet.specs.declared.Token.{Token}
 use Rattle.meaning.specs.Plain.{asksOf}
-use Rattle.meaning.specs.Draft.{Draft, quantitiesIn, rule, after}
-use Rattle.meaning.specs.Grounds.{treeFault, Outcome, refused, read, orRefused, topOf}
+use Rattle.meaning.specs.Draft.{Draft, rule}
+use Rattle.meaning.specs.Grounds.{treeFault, read, topOf}
 use Rattle.meaning.specs.declared.Refusal.{Refusal}
 use Rattle.meaning.specs.declared.Refusal.the-variants as refusal
 use Rattle.translate.specs.declared.parts.Making.{Making}
 use Rattle.translate.specs.declared.parts.Progress.{Progress}
 use Rattle.translate.specs.declared.parts.Ruled.{Ruled}
 use Rattle.translate.specs.declared.parts.Ruled.the-variants.{Done, Unread}
-use Rattle.translate.specs.declared.parts.Lined.{Lined}
 use Rattle.translate.specs.declared.parts.Lined.the-variants.{Next, Refused}
 use Rattle.translate.specs.inner.Emission.{Listing, listAll, listedFrom, Rules}
-use Rattle.translate.specs.inner.Stored.{Stored, Proper, Full, Standing, Holds, Answers, treeBy, ruleF, clausesFor, Appended, Roomy}
+use Rattle.translate.specs.inner.Stored.{Stored, Proper, Full, Answers, treeBy, ruleF, clausesFor, Appended, Roomy}
 use Rattle.translate.proofs.Flags.{IsRule}
 use Rattle.translate.proofs.Filling.{part-front}
 use Rattle.translate.proofs.AcceptCode.{room}

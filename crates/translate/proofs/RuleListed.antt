@@ -12,7 +12,7 @@ use lib.Seq.{take-take, take-at}
 use borrow.Author.Tests.{ltb-true, ltb-false, lt-ltb, le-ltb}
 use Rattle.whole.specs.declared.Range.{Range}
 use Rattle.sheet.specs.Grammar.{Line}
-use Rattle.meaning.specs.Translation.{first, equalities, sizes}
+use Rattle.meaning.specs.Translation.{first, equalities}
 use Rattle.meaning.specs.Lists.{rangeList, primitiveList, literalList}
 use Rattle.meaning.specs.Draft.{Draft, quantitiesIn, rule, after}
 use Rattle.meaning.specs.Grounds.{badNames, anyBeyond}
@@ -21,6 +21,7 @@ use Rattle.translate.specs.inner.Stored.{Stored}
 use Rattle.translate.specs.declared.parts.Progress.{Progress}
 use Rattle.meaning.proofs.FlatLists.{ranges-append, ranges-length}
 use Rattle.translate.proofs.Flags.{IsRule, SameEqualities, strangeAll, strange-is, unknown-is, equals-is}
+use Rattle.meaning.proofs.Definitions.{sizes}
 use Rattle.meaning.proofs.TreeSizes.{clause-few}
 use Rattle.translate.proofs.ExactPiece.{Ready}
 use Rattle.translate.proofs.RuleWrites.{Long, Noted, used-all, long-all, wide-all, noted-all}
@@ -115,7 +116,7 @@ module _ {s : Draft} {g : Progress} {rs ps ns ls : List ℤ} {keys : List ℕ} (
   noted-rule : strangeAll (length (s .names)) (asked s x) ≡ false → anyBeyond (added s x .ranges) ≡ false → quantitiesIn s + sizes (asked s x) ≤ 128 → 768 ≤ length fs → 768 ≤ length ss → Noted (s .declared) (s .declared ++ s .made .ranges ++ added s x .ranges) (s .made .primitives ++ added s x .primitives) (quantitiesIn s + sizes (asked s x)) (firstOf s x) (secondOf s x) (listedOf s x g rs ps fs ss)
   noted-rule e far u i j =
       let a = startOf g rs ps fs ss in
-      let c = clause-few first (asked s x) (quantitiesIn s) in
+      let c = clause-few first (quantitiesIn s) (asked s x) in
       subst (λ (n : ℕ). strangeAll n (asked s x) ≡ false → Noted (s .declared) (s .declared ++ s .made .ranges ++ added s x .ranges) (s .made .primitives ++ added s x .primitives) (quantitiesIn s + sizes (asked s x)) (firstOf s x) (secondOf s x) (listAll n (asked s x) a)) (stored .alike)
       (λ f. noted-all (s .declared) (proper .good) (asked s x) (start-noted stored fs ss long longer) f far u (omega (arith, proper .primitives)) (omega arith) (omega arith) (omega arith))
       e
@@ -124,7 +125,7 @@ module _ {s : Draft} {g : Progress} {rs ps ns ls : List ℤ} {keys : List ℕ} (
   added-rule r e far u i j =
       let h : quantitiesIn s + sizes (asked s x) ≤ 128 = omega (arith, used-rule) in
       let n = noted-rule e far h i j in
-      let c = clause-few first (asked s x) (quantitiesIn s) in
+      let c = clause-few first (quantitiesIn s) (asked s x) in
       let l = ap length (rule-primitives s x) in
       record {
         demands = equals-is (length (s .names)) (asked s x) (startOf g rs ps fs ss) refl;

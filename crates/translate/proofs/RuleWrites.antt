@@ -13,11 +13,12 @@ use Rattle.problem.specs.declared.Literal.{Literal}
 use Rattle.sheet.specs.declared.Sign.{Sign}
 use Rattle.sheet.specs.declared.Sign.the-variants.{AtMost, Below, AtLeast, Above, Equal, Differ}
 use Rattle.meaning.specs.Plain.{Asked}
-use Rattle.meaning.specs.Translation.{gapOf, Turn, first, second, halfOf, literalsFor, sizeOf, placeIn, pieceOf, sizes, gaps, clauseOf}
+use Rattle.meaning.specs.Translation.{gapOf, Turn, first, second, halfOf, literalsFor, sizeOf, placeIn, pieceOf, gaps, clauseOf}
 use Rattle.meaning.specs.Lists.{rangeList, literalList}
 use Rattle.meaning.specs.Grounds.{anyBeyond}
 use Rattle.translate.specs.inner.Emission.{emit, Emit, Listing, listed, listAll}
-use Rattle.meaning.proofs.TreeSizes.{few-primitives, literals-alike}
+use Rattle.meaning.proofs.Definitions.{sizes}
+use Rattle.meaning.proofs.TreeSizes.{piece-primitives, literals-alike}
 use Rattle.translate.proofs.PutBehind.{SmallLiteral, put-literals-length, count-literals, literals-next}
 use Rattle.translate.proofs.Flags.{strange, strangeAll, oneListed}
 use Rattle.translate.proofs.HelperRanges.{any-append}
@@ -147,7 +148,7 @@ module _ (ds : List Range) (good : AllOf Good ds) where
       let l1 = length-append f cf in
       let l2 = length-append fs f in
       let l3 = length-append vs (A .primitives) in
-      let p = few-primitives ds t k in
+      let p = piece-primitives ds k t in
       let one = one-noted n x w (omega arith) (omega arith) (omega arith) in
       let lf = put-literals-length (literalsFor first (x .sign) (e .held .place)) (a .firsts) (a .count) in
       let ls = put-literals-length (literalsFor second (x .sign) (e .held .place)) (a .seconds) (a .count) in

@@ -1,6 +1,6 @@
 -- The walk through the lines: some sheet is held, and the lines from here on make of it what all lines make of the blank one. Each line goes on with the sheet that
 -- it makes, or decides by its fault; past the last line the sheet held is the outcome.
-use mathlib.Core.Path.{_≡_, refl, sym, ap, _∙_}
+use mathlib.Core.Path.{_≡_, refl, ap, _∙_}
 use mathlib.Core.List.{List, [], _∷_}
 use Prim.Native.Nat.{ℕ, suc, _+_, _-_, _≤_, _<_}
 use native.Mathlib.Numerals.{add-one}

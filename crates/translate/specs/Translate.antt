@@ -1,11 +1,10 @@
 -- What the public call gives back, and what it leaves in the caller's lists: document 01, "Translation".
 use mathlib.Core.Path.{_≡_}
-use mathlib.Core.Bool.{Bool, cond}
-use mathlib.Core.List.{List, [], _∷_, _++_}
+use mathlib.Core.Bool.{cond}
+use mathlib.Core.List.{List, _++_}
 use Prim.Native.Nat.{ℕ}
 use lib.IntN.{ℤ}
 use lib.ListN.{length, drop}
-use Rattle.meaning.specs.Translation.{Piece}
 use Rattle.meaning.specs.Lists.{rangeList, primitiveList, lengthList, literalsIn, literalList, nameBytes}
 use Rattle.meaning.specs.Draft.{Draft, quantitiesIn}
 use Rattle.meaning.specs.Grounds.{shortLists, Outcome, refused, read, outcomeOf}
@@ -41,7 +40,9 @@ abbrev pub into : {A : Type 0} → Outcome → (Draft → List A) → List A →
 into (refused g k) f old = old
 into (read s) f old = filled (f s) old
 
-pub record Translates (t : List ℕ) (rs₀ ps₀ ns₀ ls₀ : List ℤ) (bytes₀ : List ℕ) (rs ps ns ls : List ℤ) (bytes : List ℕ) (r : Translated) : Type 0 where
+-- the call: its result, and every list, from what came
+pub record Translates
+    (t : List ℕ) (rs₀ ps₀ ns₀ ls₀ : List ℤ) (bytes₀ : List ℕ) (rs ps ns ls : List ℤ) (bytes : List ℕ) (r : Translated) : Type 0 where
   pub result : r ≡ resultOf (judged t rs₀ ps₀ ns₀ ls₀ bytes₀)
   pub ranges : rs ≡ into (judged t rs₀ ps₀ ns₀ ls₀ bytes₀) (λ s. rangeList (s .declared ++ s .made .ranges)) rs₀
   pub primitives : ps ≡ into (judged t rs₀ ps₀ ns₀ ls₀ bytes₀) (λ s. primitiveList (s .made .primitives)) ps₀

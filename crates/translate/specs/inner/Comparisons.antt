@@ -49,6 +49,8 @@ listingAs l (At n t) rs ps fs ss = some (listingOf t rs ps fs ss, tokensFrom l n
 listingAs l Not rs ps fs ss = none
 
 -- the answer is the reading f, at every bound that is large enough, with what it asks listed; and a part that was read is not empty
-pub record Lists {A : Type 0} (f : ℕ → List Token → Read A) (asks : A → List Asked) (d : ℕ) (l : List ℕ) (at : ℕ) (a : Listing) (r : Listed) (rs ps fs ss : List ℤ) : Type 0 where
+pub record Lists
+    {A : Type 0} (f : ℕ → List Token → Read A) (asks : A → List Asked) (d : ℕ) (l : List ℕ) (at : ℕ) (a : Listing)
+    (r : Listed) (rs ps fs ss : List ℤ) : Type 0 where
   pub agrees : (k : ℕ) → 8 * length (tokensFrom l at) + 6 ≤ k → listingAs l r rs ps fs ss ≡ emitted (λ x. listAll d (asks x) a) (f k (tokensFrom l at))
   pub falls : (n : ℕ) (t : Tally) → r ≡ At n t → length (tokensFrom l n) < length (tokensFrom l at)

@@ -1,8 +1,8 @@
 -- For the code: what reading an expression writes into lists of fixed size. Everything is total: a number that has no place is not
 -- written, counts stop at a limit above every size that is accepted, and a range that cannot be computed with is replaced by [0, 0].
--- proofs/Emission.antt ties this to Translation.antt for sheets within the grounds.
+-- proofs/ExactPiece.antt ties this to Translation.antt for sheets within the grounds.
 use mathlib.Core.Path.{_≡_}
-use mathlib.Core.Bool.{Bool, cond, _||_}
+use mathlib.Core.Bool.{cond, _||_}
 use mathlib.Core.List.{List, [], _∷_}
 use mathlib.Core.Option.{Option, none, some}
 use Prim.Native.Nat.{ℕ, _+_, _*_, _≤_, _<_}
@@ -134,7 +134,9 @@ madeAs l Not rs ps = none
 abbrev pub GoodHeld : Held → Type 0
 GoodHeld h = Good (h .span)
 
-pub record Makes {A : Type 0} (f : ℕ → List Token → Read A) (plain : A → Tree) (rank d : ℕ) (l : List ℕ) (at : ℕ) (m : Making) (rs ps : List ℤ) (r : Made) (rs′ ps′ : List ℤ) : Type 0 where
+pub record Makes
+    {A : Type 0} (f : ℕ → List Token → Read A) (plain : A → Tree) (rank d : ℕ) (l : List ℕ) (at : ℕ) (m : Making) (rs ps : List ℤ)
+    (r : Made) (rs′ ps′ : List ℤ) : Type 0 where
   pub agrees : (k : ℕ) → 8 * length (tokensFrom l at) + rank ≤ k → madeAs l r rs′ ps′ ≡ emitted (λ a. emit d (plain a) rs ps m) (f k (tokensFrom l at))
   pub falls : (n : ℕ) (h : Held) (m′ : Making) → r ≡ At n h m′ → length (tokensFrom l n) < length (tokensFrom l at)
   pub good : (n : ℕ) (h : Held) (m′ : Making) → r ≡ At n h m′ → GoodHeld h

@@ -80,7 +80,9 @@ LineSays k o rs ps ns ls keys (lined.Next g) = Holds o g rs ps ns ls keys
 LineSays k o rs ps ns ls keys (lined.Refused g) = o ≡ refused g k
 
 -- the answer to a line, whatever sheet was held before it and whatever its number; f gives the outcome
-pub record Answers (f : Draft → ℕ → Outcome) (g : Progress) (rs₀ ps₀ ns₀ ls₀ : List ℤ) (keys₀ : List ℕ) (rs ps ns ls : List ℤ) (keys : List ℕ) (r : Lined) : Type 0 where
+pub record Answers
+    (f : Draft → ℕ → Outcome) (g : Progress) (rs₀ ps₀ ns₀ ls₀ : List ℤ) (keys₀ : List ℕ) (rs ps ns ls : List ℤ) (keys : List ℕ) (r : Lined)
+    : Type 0 where
   pub says : (s : Draft) (k : ℕ) → Stored s g rs₀ ps₀ ns₀ ls₀ keys₀ → Proper s → LineSays k (f s k) rs ps ns ls keys r
 
 -- the outcome of a line
@@ -153,5 +155,7 @@ pub record Gives (o : Outcome) (rs₀ ps₀ ns₀ ls₀ : List ℤ) (bytes₀ : 
   pub names : bytes ≡ into o (λ s. nameBytes (s .names)) bytes₀
 
 -- the caller's lists are filled with any sheet that is held
-pub record Accepts (g : Progress) (rs ps ns ls : List ℤ) (keys : List ℕ) (rs₀ ps₀ ns₀ ls₀ : List ℤ) (bytes₀ : List ℕ) (rs₁ ps₁ ns₁ ls₁ : List ℤ) (bytes₁ : List ℕ) (r : Translated) : Type 0 where
+pub record Accepts
+    (g : Progress) (rs ps ns ls : List ℤ) (keys : List ℕ) (rs₀ ps₀ ns₀ ls₀ : List ℤ) (bytes₀ : List ℕ)
+    (rs₁ ps₁ ns₁ ls₁ : List ℤ) (bytes₁ : List ℕ) (r : Translated) : Type 0 where
   pub gives : (s : Draft) → Stored s g rs ps ns ls keys → Gives (read s) rs₀ ps₀ ns₀ ls₀ bytes₀ rs₁ ps₁ ns₁ ls₁ bytes₁ r

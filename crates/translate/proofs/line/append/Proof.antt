@@ -8,9 +8,6 @@ use native.Mathlib.Omega.{arith}
 use borrow.Author.Needs.{needs}
 use Rattle.translate.proofs.line.append.Statement.{statement}
 use Rattle.translate.proofs.line.append.Tie as tie
-use Rattle.translate.proofs.line.append.Reads as reads
-use Rattle.translate.proofs.line.append.Lts as lts
-use Rattle.translate.proofs.front.copy.Reads as copy-reads
 
 cast-size : tie.Need-cast-size
 cast-size c = search needs

@@ -2,7 +2,6 @@
 use mathlib.Core.Path.{sym, ap, _∙_}
 use Rattle.sheet.specs.declared.Token.the-variants.{Fixed}
 use Rattle.translate.proofs.LineCode.{line-deep, line-range, line-must, line-if, line-other, not-fixed, other-mark}
-use native.Mathlib.Omega.{arith}
 use borrow.Author.Needs.{needs}
 use Rattle.translate.proofs.line.read_line.Statement.{statement}
 use Rattle.translate.proofs.line.read_line.Tie as tie

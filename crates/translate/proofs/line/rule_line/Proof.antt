@@ -11,10 +11,6 @@ use native.Mathlib.Omega.{arith}
 use borrow.Author.Needs.{needs}
 use Rattle.translate.proofs.line.rule_line.Statement.{statement}
 use Rattle.translate.proofs.line.rule_line.Tie as tie
-use Rattle.translate.proofs.line.rule_line.Reads as reads
-use Rattle.translate.proofs.line.rule_line.Lts as lts
-use Rattle.translate.proofs.line.append.Reads as append-reads
-use Rattle.translate.proofs.line.read_part.Reads as read-part-reads
 
 mul-start : tie.Need-mul-start
 mul-start c = search needs
