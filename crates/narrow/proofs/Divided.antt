@@ -1,5 +1,5 @@
 -- Quotients by two divisions: a quotient by a number above 0 grows with what is divided, and falls or grows with the divisor by the sign of what is divided; with both signs turned it is the same.
-use mathlib.Core.Path.{_≡_, refl, sym, ap, ap₂, subst, _∙_}
+use mathlib.Core.Path.{_≡_, sym, ap, ap₂, subst, _∙_}
 use mathlib.Core.Logic.{_⊎_, inl, inr, ⊎-elim}
 use mathlib.Core.Bool.{Bool, true, false}
 use Prim.Native.Nat.{ℕ}

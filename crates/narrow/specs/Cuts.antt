@@ -1,10 +1,9 @@
 -- Cuts, and how they follow one another: document 01, "Narrowing one constraint". "Cut" means intersect; a range with low above high is
 -- empty and ends the sweep at once; each cut uses the ranges as the earlier cuts left them.
-use mathlib.Core.Bool.{Bool, cond}
+use mathlib.Core.Bool.{cond}
 use mathlib.Core.List.{List, [], _∷_}
 use Prim.Native.Nat.{ℕ, _+_, _*_}
 use lib.ListN.{set}
-use lib.IntN.{ℤ}
 use lib.Signed.{ltZ}
 use Rattle.whole.specs.Numbers.{minZ, maxZ}
 use Rattle.whole.specs.Ranges.{range}

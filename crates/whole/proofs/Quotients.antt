@@ -1,5 +1,5 @@
 -- Quotients against products: a product keeps the order in each factor that is above 0, and turns it for one below 0.
-use mathlib.Core.Path.{_≡_, refl, sym, ap, ap₂, subst, _∙_}
+use mathlib.Core.Path.{_≡_, refl, sym, ap, subst, _∙_}
 use Prim.Native.Nat.{zero, suc, _≤_}
 use native.Mathlib.Nat.{div-le-self, zero-div}
 use native.Mathlib.Omega.{arith}

@@ -2,8 +2,8 @@
 use mir.Val.{toZ}
 use mir.Syntax.{w64}
 use mathlib.Core.Logic.{⊎-elim}
-use mathlib.Core.Path.{_≡_, ap, _∙_}
-use lib.IntN.{ℤ, pos, negℤ}
+use mathlib.Core.Path.{ap, _∙_}
+use lib.IntN.{ℤ, negℤ}
 use Rattle.whole.specs.Numbers.{floorQ, ceilQ}
 use Rattle.whole.proofs.Spans.{ends-is}
 use Rattle.whole.proofs.Kit.{ints, nears, got, rn, neg-positive, neg-negative}
