@@ -1,10 +1,7 @@
-/* Answers a sheet with the proved library.
- *
- *   answer [-b BUDGET] [FILE]
- *
- * reads the sheet from FILE or standard input. Without -b the output is the desk
- * program's. With -b the search has a budget of its own and as much room as it
- * needs. The line at fault of a refused sheet goes to standard error. */
+/* Answers a sheet with the proved library: an example of each of its calls. The usage
+ * text below says what it takes; the line at fault of a refused sheet goes to standard
+ * error. */
+#include <errno.h>
 #include <stdbool.h>
 #include <stdio.h>
 #include <stdlib.h>
@@ -23,18 +20,42 @@ static int64_t literals[ULARIMPONG_LITERALS];
 static uint8_t names[ULARIMPONG_NAMES];
 static int64_t point[ULARIMPONG_MOST_QUANTITIES];
 
-static bool read_sheet(const char *path)
+static const char usage[] =
+    "usage: answer [-b BUDGET] [FILE]\n"
+    "\n"
+    "Answers the sheet in FILE, or on standard input, as the desk program does.\n"
+    "\n"
+    "  -b BUDGET  search with at most BUDGET sweeps, a whole number, and as much room as\n"
+    "             the sheet needs\n"
+    "  --help     print this\n"
+    "\n"
+    "Status: 0 answered or refused, 1 a failed read or write, 2 bad usage.\n";
+
+/* Says why the last call on what is named here failed. */
+static int failed(const char *name)
 {
+    fprintf(stderr, "answer: %s: %s\n", name, strerror(errno));
+    return 1;
+}
+
+/* A folder can be opened, so only the read tells that it is no sheet. */
+static int read_sheet(const char *path)
+{
+    const char *name = path ? path : "standard input";
     FILE *file = path ? fopen(path, "rb") : stdin;
-    if (!file) {
-        perror(path);
-        return false;
-    }
+    if (!file)
+        return failed(name);
     sheet_count = fread(sheet, 1, sizeof sheet, file);
-    bool fine = !ferror(file);
+    int status = ferror(file) ? failed(name) : 0;
     if (path)
         fclose(file);
-    return fine;
+    return status;
+}
+
+/* Output waits in a buffer, so only this tells that it was written. */
+static int written(void)
+{
+    return fflush(stdout) != 0 || ferror(stdout) ? failed("standard output") : 0;
 }
 
 static ularimpong_translated translate(void)
@@ -63,8 +84,9 @@ static int as_the_desk(void)
     static uint8_t output[ULARIMPONG_OUTPUT];
     size_t length = ularimpong_answer(sheet, sheet_count, output);
     fwrite(output, 1, length, stdout);
+    int status = written();
     show_line(translate().line);
-    return 0;
+    return status;
 }
 
 /* The workspace needed: 2n(D+1) numbers. */
@@ -92,13 +114,14 @@ static int with_budget(int64_t budget)
     ularimpong_translated made = translate();
     if (made.refusal != 0) {
         printf("REFUSED %zu %zu\n", made.refusal, made.line);
+        int status = written();
         show_line(made.line);
-        return 0;
+        return status;
     }
     size_t need = room(made.quantities);
     int64_t *work = calloc(need, sizeof *work);
     if (!work)
-        return 1;
+        return failed("workspace");
     ularimpong_solved solved = ularimpong_solve(
         ranges, 2 * made.quantities,
         primitives, 4 * made.primitives,
@@ -111,23 +134,46 @@ static int with_budget(int64_t budget)
     static const char *const words[] = {"NONE", "FOUND", "STOP"};
     if (solved.answer == ULARIMPONG_REFUSED) {
         printf("REFUSED %zu 0\n", solved.refusal);
-        return 0;
+        return written();
     }
     printf("%s %zu\n", words[solved.answer], solved.sweeps);
     if (solved.answer != ULARIMPONG_NONE)
         print_values(made.declared);
-    return 0;
+    return written();
+}
+
+/* A whole number and nothing else. Which budgets there are is the library's to say. */
+static bool read_budget(const char *text, int64_t *budget)
+{
+    char *end;
+    errno = 0;
+    long long number = strtoll(text, &end, 10);
+    *budget = number;
+    return errno == 0 && end != text && *end == '\0' && strchr("+-0123456789", *text);
+}
+
+static int bad_usage(void)
+{
+    fputs(usage, stderr);
+    return 2;
 }
 
 int main(int count, char **arguments)
 {
-    bool has_budget = count > 2 && strcmp(arguments[1], "-b") == 0;
-    int files = has_budget ? 3 : 1;
-    if (count > files + 1) {
-        fprintf(stderr, "usage: answer [-b BUDGET] [FILE]\n");
-        return 2;
+    if (count == 2 && strcmp(arguments[1], "--help") == 0) {
+        fputs(usage, stdout);
+        return written();
     }
-    if (!read_sheet(arguments[files]))
-        return 1;
-    return has_budget ? with_budget(strtoll(arguments[2], NULL, 10)) : as_the_desk();
+    bool has_budget = count > 1 && strcmp(arguments[1], "-b") == 0;
+    int64_t budget = 0;
+    if (has_budget && (count < 3 || !read_budget(arguments[2], &budget)))
+        return bad_usage();
+    int rest = has_budget ? 3 : 1;
+    const char *path = count > rest ? arguments[rest] : NULL;
+    if (count > rest + 1 || (path && path[0] == '-'))
+        return bad_usage();
+    int status = read_sheet(path);
+    if (status != 0)
+        return status;
+    return has_budget ? with_budget(budget) : as_the_desk();
 }

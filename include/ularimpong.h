@@ -1,9 +1,19 @@
-/* The proved library for C.
+/* The proved library for C, on Linux on x86-64.
  *
- * A list is lent as a pointer and a count of its elements. No two buffers of one
- * call may overlap, and none may be NULL, also where its count is 0. Beyond that
- * a call asks nothing: whatever stands in its lists, it ends, and returns an
- * answer or the number of a refusal. docs/SHEETS.md says what refusals mean.
+ * A list is lent as a pointer and a count. The count is of elements behind the
+ * pointer, not of bytes: six int64_t are 6. A pointer is aligned as its elements
+ * are (8 bytes for int64_t), no two buffers of one call overlap, and none is NULL,
+ * also where its count is 0. Nobody else writes to a buffer while the call runs.
+ * Beyond that a call asks nothing: whatever stands in its lists, it ends, and
+ * returns an answer or the number of a refusal. docs/SHEETS.md says what the
+ * refusals of sheets mean, docs/PROBLEMS.md those of problems.
+ *
+ * A call keeps nothing between calls and uses no heap, but stack, which no proof
+ * bounds. Measured, and then rounded up:
+ *
+ *   ularimpong_solve, ularimpong_line_span    below 2 KiB; leave it 32 KiB
+ *   ularimpong_translate                      68 KiB; leave it 128 KiB
+ *   ularimpong_answer                         170 KiB; leave it 256 KiB
  *
  * Link target/staticlib/libbindings.a, which `rt staticlib bindings` writes. */
 #ifndef ULARIMPONG_H

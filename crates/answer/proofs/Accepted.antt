@@ -1,23 +1,21 @@
 -- What a translation leaves in lists of full size: of a refused sheet the refusal, of an accepted one the filled fronts, as long as the counts say.
-use mathlib.Core.Path.{_≡_, refl, sym, ap, _∙_}
+use mathlib.Core.Path.{_≡_, sym, ap, _∙_}
 use mathlib.Core.List.{List, _++_}
-use Prim.Native.Nat.{ℕ, _+_, _*_, _≤_}
+use Prim.Native.Nat.{ℕ, _*_, _≤_}
 use native.Mathlib.Omega.{arith}
 use lib.IntN.{ℤ, pos}
-use lib.ListN.{length, take, drop, replicate, length-append, length-replicate}
-use lib.Seq.{take-at}
+use lib.ListN.{length, take, replicate, length-append, length-replicate}
 use borrow.Author.Tests.{le-ltb}
-use Rattle.translate.specs.Lists.{rangeList, primitiveList, lengthList, literalsIn, literalList, nameBytes}
-use Rattle.translate.specs.Sheet.{Sheet}
-use Rattle.translate.specs.Grounds.{Outcome, refused, read, outcomeOf}
-use Rattle.translate.specs.Grounds as sheet
-use Rattle.translate.specs.Translate.{judged, countsOf, resultOf, filled, into, Translates}
-use Rattle.translate.specs.declared.Refusal.{Refusal}
+use Rattle.meaning.specs.Grounds.{Outcome, refused, read, outcomeOf}
+use Rattle.meaning.specs.Grounds as sheet
+use Rattle.translate.specs.Translate.{judged, resultOf, Translates}
+use Rattle.meaning.specs.declared.Refusal.{Refusal}
 use Rattle.translate.specs.declared.Counts.{Counts}
 use Rattle.translate.specs.declared.Translated.{Translated}
-use Rattle.translate.specs.declared.Translated.the-variants.{Accepted, Refused}
-use Rattle.translate.proofs.Flat.{ranges-length, primitives-length, lengths-length, literals-length, names-length}
-use Rattle.translate.proofs.Fits.{fits}
+use Rattle.translate.specs.declared.Translated.the-variants.{Refused}
+use Rattle.meaning.proofs.FlatLists.{ranges-length, names-length}
+use Rattle.meaning.proofs.Fits.{fits}
+use Rattle.translate.proofs.AcceptedFronts.{Taken}
 use Rattle.answer.specs.Output.{refusedLine, printed, outputOf}
 use Rattle.answer.specs.inner.Reporting.{reportOn, Fronts}
 use Rattle.answer.proofs.Reporting.{report-sheet}
@@ -40,21 +38,6 @@ zeros-full =
       names = omega (arith, length-replicate {A = ℕ} 1024 0);
     }
 
--- the counts and the fronts of the lists are those of the sheet that was read
-pub record Taken (t : List ℕ) (c : Counts) (rs ps ns ls : List ℤ) (bs : List ℕ) : Type 0 where
-  pub sheet : Sheet
-  pub is : outcomeOf t ≡ read sheet
-  pub counts : c ≡ countsOf sheet
-  pub ranges : take (2 * c .quantities) rs ≡ rangeList (sheet .declared ++ sheet .made .ranges)
-  pub primitives : take (4 * c .primitives) ps ≡ primitiveList (sheet .made .primitives)
-  pub lengths : take (c .clauses) ns ≡ lengthList (sheet .made .clauses)
-  pub literals : take (3 * c .literals) ls ≡ literalList (literalsIn (sheet .made .clauses))
-  pub names : take (8 * c .declared) bs ≡ nameBytes (sheet .names)
-
--- the filled front
-front : {A : Type 0} (new old l : List A) (n : ℕ) → l ≡ filled new old → length new ≡ n → take n l ≡ new
-front new old l n e f = ap (take n) e ∙ take-at new (drop (length new) old) n f
-
 module _ (t : List ℕ) (rs₀ ps₀ ns₀ ls₀ : List ℤ) (bs₀ : List ℕ) (full : Full rs₀ ps₀ ns₀ ls₀ bs₀) where
   all-full : judged t rs₀ ps₀ ns₀ ls₀ bs₀ ≡ outcomeOf t
   unfolding judged
@@ -76,34 +59,6 @@ module _ (t : List ℕ) (rs₀ ps₀ ns₀ ls₀ : List ℤ) (bs₀ : List ℕ) 
         go (refused g′ k′) i = let a : g ≡ g′ = cc in let b : k ≡ k′ = cc in rw (a, b)
         go (read s) i = absurd (let z : _≡_ {A = ℕ} 0 1 = cc in omega arith)
 
-    pub taken : (c : Counts) → r ≡ Accepted c → Taken t c rs ps ns ls bs
-    taken c e = go (outcomeOf t) refl (sym e ∙ h .result ∙ ap resultOf all-full)
-      where
-        lists : (s : Sheet) → outcomeOf t ≡ read s → c ≡ countsOf s → Taken t c rs ps ns ls bs
-        lists s i f =
-            let j = all-full ∙ i in
-            let d = s .declared ++ s .made .ranges in
-            let cs = s .made .clauses in
-            record {
-              sheet = s;
-              is = i;
-              counts = f;
-              ranges = front (rangeList d) rs₀ rs (2 * c .quantities) (h .ranges ∙ ap (λ (o : Outcome). into o (λ s. rangeList (s .declared ++ s .made .ranges)) rs₀) j)
-                  (omega (arith, ap (λ (x : Counts). x .quantities) f, ranges-length d, length-append (s .declared) (s .made .ranges)));
-              primitives = front (primitiveList (s .made .primitives)) ps₀ ps (4 * c .primitives) (h .primitives ∙ ap (λ (o : Outcome). into o (λ s. primitiveList (s .made .primitives)) ps₀) j)
-                  (omega (arith, ap (λ (x : Counts). x .primitives) f, primitives-length (s .made .primitives)));
-              lengths = front (lengthList cs) ns₀ ns (c .clauses) (h .lengths ∙ ap (λ (o : Outcome). into o (λ s. lengthList (s .made .clauses)) ns₀) j)
-                  (omega (arith, ap (λ (x : Counts). x .clauses) f, lengths-length cs));
-              literals = front (literalList (literalsIn cs)) ls₀ ls (3 * c .literals) (h .literals ∙ ap (λ (o : Outcome). into o (λ s. literalList (literalsIn (s .made .clauses))) ls₀) j)
-                  (omega (arith, ap (λ (x : Counts). x .literals) f, literals-length (literalsIn cs)));
-              names = front (nameBytes (s .names)) bs₀ bs (8 * c .declared) (h .names ∙ ap (λ (o : Outcome). into o (λ s. nameBytes (s .names)) bs₀) j)
-                  (omega (arith, ap (λ (x : Counts). x .declared) f, names-length (s .names), fits t s i .many));
-            }
-
-        go : (o : Outcome) → outcomeOf t ≡ o → Accepted c ≡ resultOf o → Taken t c rs ps ns ls bs
-        go (refused g k) i f = absurd (let z : _≡_ {A = ℕ} 0 1 = cc in omega arith)
-        go (read s) i f = lists s i (cc)
-
 -- ---- what the counts come to
 pub record Few (c : Counts) : Type 0 where
   pub quantities : c .quantities ≤ 128
@@ -115,7 +70,7 @@ pub record Few (c : Counts) : Type 0 where
 module _ (t : List ℕ) (c : Counts) (rs ps ns ls : List ℤ) (bs : List ℕ) (h : Taken t c rs ps ns ls bs) where
   pub few : Few c
   few =
-      let f = fits t (h .sheet) (h .is) in
+      let f = fits t (h .draft) (h .is) in
       let e = h .counts in
       record {
         quantities = omega (arith, ap (λ (x : Counts). x .quantities) e, f .few);
@@ -127,8 +82,8 @@ module _ (t : List ℕ) (c : Counts) (rs ps ns ls : List ℤ) (bs : List ℕ) (h
 
   pub fronts : Fronts (take (2 * c .quantities) rs) (take (8 * c .declared) bs)
   fronts =
-      let f = fits t (h .sheet) (h .is) in
-      let s = h .sheet in
+      let f = fits t (h .draft) (h .is) in
+      let s = h .draft in
       rw (h .ranges, h .names)
       (record {
         few = omega (arith, ranges-length (s .declared ++ s .made .ranges), length-append (s .declared) (s .made .ranges), f .few);
@@ -137,4 +92,4 @@ module _ (t : List ℕ) (c : Counts) (rs ps ns ls : List ℤ) (bs : List ℕ) (h
 
   pub accepted-output : reportOn (take (2 * c .quantities) rs) (take (4 * c .primitives) ps) (take (c .clauses) ns) (take (3 * c .literals) ls) (take (8 * c .declared) bs) ≡ outputOf t
   unfolding outputOf
-  accepted-output = rw (h .ranges, h .primitives, h .lengths, h .literals, h .names) (report-sheet t (h .sheet) (h .is) ∙ ap printed (sym (h .is)))
+  accepted-output = rw (h .ranges, h .primitives, h .lengths, h .literals, h .names) (report-sheet t (h .draft) (h .is) ∙ ap printed (sym (h .is)))

@@ -8,7 +8,7 @@ use lib.Dec.{leb}
 use lib.ListN.{length, take}
 use lib.Seq.{length-take-le, take-all}
 use borrow.Author.Tests.{ne-eqb, lt-ltb, leb-true, leb-false}
-use Rattle.translate.specs.Grounds.{outcomeOf}
+use Rattle.meaning.specs.Grounds.{outcomeOf}
 use Rattle.answer.specs.Output.{refusedLine, outputOf}
 
 pub long-refused : (t : List ℕ) → 4096 < length t → outputOf t ≡ refusedLine 20 0

@@ -10,7 +10,7 @@ use lib.ListN.{length, length-append}
 use lib.IntN.{ℤ, pos, negsuc, _+ℤ_, _-ℤ_}
 use lib.Signed.{_≤ℤ_, _<ℤ_}
 use borrow.Author.Tests.{lt-ltb, le-ltb, ltb-true, ltb-false}
-use Rattle.whole.specs.Numbers.{P}
+use Rattle.whole.specs.Numbers.{positivePart}
 use Rattle.whole.proofs.Kit.{ints, plus, minus, apart}
 use Rattle.answer.specs.Output.{digits, decimal, signedDecimal}
 
@@ -58,11 +58,11 @@ value-few (pos n) = omega (arith, digits-few 19 n)
 value-few (negsuc n) = omega (arith, digits-few 19 (suc n))
 
 -- ---- a value: from 0 on it is its size; below 0, `-` and the size, had from one nearer to 0
-pub value-up : (z : ℤ) (n : ℕ) → pos 0 ≤ℤ z → n ≡ P z → decimal n ≡ signedDecimal z
+pub value-up : (z : ℤ) (n : ℕ) → pos 0 ≤ℤ z → n ≡ positivePart z → decimal n ≡ signedDecimal z
 value-up (pos m) n h e = ap decimal e
 value-up (negsuc m) n h e = absurd (omega ints)
 
-pub value-down : (z : ℤ) (n : ℕ) → z <ℤ pos 0 → n ≡ P (pos 0 -ℤ (z +ℤ pos 1)) → 45 ∷ decimal (n + 1) ≡ signedDecimal z
+pub value-down : (z : ℤ) (n : ℕ) → z <ℤ pos 0 → n ≡ positivePart (pos 0 -ℤ (z +ℤ pos 1)) → 45 ∷ decimal (n + 1) ≡ signedDecimal z
 value-down (pos m) n h e = absurd (omega ints)
 value-down (negsuc m) n h e =
     ap (λ (k : ℕ). 45 ∷ decimal k) (omega (ints, plus (negsuc m) (pos 1), minus (pos 0) (negsuc m +ℤ pos 1), apart (pos 0 -ℤ (negsuc m +ℤ pos 1))))

@@ -3,8 +3,11 @@ pub mod Decimal
 pub mod Names
 pub mod Letters
 pub mod Short
-pub mod Once
 pub mod Cut
 pub mod Reporting
 pub mod Accepted
 pub mod SheetAnswers
+pub mod Values
+pub mod SheetSays
+pub mod Saying
+pub mod Promises

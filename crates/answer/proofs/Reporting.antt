@@ -1,7 +1,7 @@
 -- What the code writes of a solve is the answer's lines: the lists read back as the sheet's problem, and names that are letters are written without their padding.
 use mathlib.Core.Path.{_≡_, refl, sym, ap, _∙_}
 use mathlib.Core.List.{List, _∷_, _++_}
-use Prim.Native.Nat.{ℕ, zero, suc, _+_, _*_, _/_, _≤_}
+use Prim.Native.Nat.{ℕ, zero, suc, _*_, _/_, _≤_}
 use native.Mathlib.Omega.{arith}
 use lib.IntN.{ℤ, pos}
 use lib.ListN.{length, take, replicate, length-append, length-take, length-replicate}
@@ -16,11 +16,11 @@ use Rattle.search.specs.Solve.{judged, resultOf, unless, pointOf, Solves}
 use Rattle.search.specs.declared.Answer.{Answer}
 use Rattle.search.specs.declared.Answer.the-variants.{None, Found, Stopped, Refused}
 use Rattle.search.specs.declared.Solved.{Solved}
-use Rattle.translate.specs.Lists.{rangeList, primitiveList, lengthList, literalsIn, literalList, nameBytes}
-use Rattle.translate.specs.Sheet.{Sheet, quantitiesIn, problemIn}
-use Rattle.translate.specs.Grounds.{read, outcomeOf}
-use Rattle.translate.proofs.Flat.{ranges-length, names-length}
-use Rattle.translate.proofs.Fits.{read-back}
+use Rattle.meaning.specs.Lists.{rangeList, primitiveList, lengthList, literalsIn, literalList, nameBytes}
+use Rattle.meaning.specs.Draft.{Draft, quantitiesIn, problemIn}
+use Rattle.meaning.specs.Grounds.{read, outcomeOf}
+use Rattle.meaning.proofs.FlatLists.{ranges-length, names-length}
+use Rattle.meaning.proofs.Fits.{read-back}
 use Rattle.sheet.specs.Text.{bytes}
 use Rattle.answer.specs.Output.{refusedLine, countLine, answerLines, deskBudget, deskWork, deskPoint, solvedOf}
 use Rattle.answer.specs.inner.Writing.{linesFor}
@@ -66,7 +66,7 @@ report-is Found k ns zs h = ap (λ (l : List ℕ). countLine (bytes "FOUND") k +
 report-is Stopped k ns zs h = ap (λ (l : List ℕ). countLine (bytes "STOP") k ++ l) (lines-are ns zs h)
 report-is (Refused g) k ns zs h = refl
 
-pub report-sheet : (t : List ℕ) (s : Sheet) → outcomeOf t ≡ read s → reportOn (rangeList (s .declared ++ s .made .ranges)) (primitiveList (s .made .primitives)) (lengthList (s .made .clauses)) (literalList (literalsIn (s .made .clauses))) (nameBytes (s .names)) ≡ solvedOf s
+pub report-sheet : (t : List ℕ) (s : Draft) → outcomeOf t ≡ read s → reportOn (rangeList (s .declared ++ s .made .ranges)) (primitiveList (s .made .primitives)) (lengthList (s .made .clauses)) (literalList (literalsIn (s .made .clauses))) (nameBytes (s .names)) ≡ solvedOf s
 unfolding reportOn solvedOf
 report-sheet t s e =
     let rs = s .declared ++ s .made .ranges in

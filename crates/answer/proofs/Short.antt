@@ -10,12 +10,12 @@ use Rattle.search.specs.Search.{searchOf}
 use Rattle.search.specs.Solve.{judged, resultOf, unless, pointOf}
 use Rattle.search.specs.declared.Answer.{Answer}
 use Rattle.search.specs.declared.Answer.the-variants.{None, Found, Stopped, Refused}
-use Rattle.translate.specs.Lists.{rangeList, primitiveList, lengthList, literalsIn, literalList, lettersOf}
-use Rattle.translate.specs.Sheet.{Sheet, problemIn}
-use Rattle.translate.specs.Grounds.{Outcome, refused, read, outcomeOf}
-use Rattle.translate.specs.Grounds as sheet
-use Rattle.translate.proofs.Flat.{padded-length}
-use Rattle.translate.proofs.Fits.{fits}
+use Rattle.meaning.specs.Lists.{rangeList, primitiveList, lengthList, literalsIn, literalList, lettersOf}
+use Rattle.meaning.specs.Draft.{Draft, problemIn}
+use Rattle.meaning.specs.Grounds.{Outcome, refused, read, outcomeOf}
+use Rattle.meaning.specs.Grounds as sheet
+use Rattle.meaning.proofs.FlatLists.{padded-length}
+use Rattle.meaning.proofs.Fits.{fits}
 use Rattle.sheet.specs.Text.{bytes}
 use Rattle.answer.specs.Output.{valueLine, valueLines, refusedLine, countLine, answerLines, deskBudget, deskWork, deskPoint, solvedOf, printed, outputOf, Answers}
 use Rattle.answer.specs.inner.Writing.{Puts}
@@ -46,7 +46,7 @@ answer-short Found k ns zs = omega (arith, length-append (countLine (bytes "FOUN
 answer-short Stopped k ns zs = omega (arith, length-append (countLine (bytes "STOP") k) (valueLines ns zs), count-short (bytes "STOP") k, lines-short ns zs)
 answer-short (Refused g) k ns zs = omega (arith, refused-short (refusalNumber g) 0)
 
-solved-short : (s : Sheet) → length (solvedOf s) ≤ 50 + 31 * length (s .names)
+solved-short : (s : Draft) → length (solvedOf s) ≤ 50 + 31 * length (s .names)
 unfolding solvedOf
 solved-short s =
     let j = judged (rangeList (s .declared ++ s .made .ranges)) (primitiveList (s .made .primitives)) (lengthList (s .made .clauses)) (literalList (literalsIn (s .made .clauses))) (pos deskBudget) (deskPoint s) deskWork in

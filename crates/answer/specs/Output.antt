@@ -11,9 +11,9 @@ use Rattle.search.specs.Search.{searchOf}
 use Rattle.search.specs.declared.Answer.{Answer}
 use Rattle.search.specs.declared.Answer.the-variants.{None, Found, Stopped, Refused}
 use Rattle.problem.specs.Grounds.{refusalNumber}
-use Rattle.translate.specs.Lists.{rangeList, primitiveList, lengthList, literalsIn, literalList, lettersOf}
-use Rattle.translate.specs.Sheet.{Sheet, quantitiesIn, problemIn}
-use Rattle.translate.specs.Grounds as sheet
+use Rattle.meaning.specs.Lists.{rangeList, primitiveList, lengthList, literalsIn, literalList, lettersOf}
+use Rattle.meaning.specs.Draft.{Draft, quantitiesIn, problemIn}
+use Rattle.meaning.specs.Grounds as sheet
 use Rattle.sheet.specs.Text.{bytes, word}
 
 -- digits of a number, at most f + 1 of them
@@ -62,13 +62,26 @@ deskBudget = 100_000
 abbrev pub deskWork : List ℤ
 deskWork = replicate 8_192 (pos 0)
 
-abbrev pub deskPoint : Sheet → List ℤ
+abbrev pub deskPoint : Draft → List ℤ
 deskPoint s = replicate (quantitiesIn s) (pos 0)
 
+-- the lists of an accepted sheet, as they fill the fronts of the caller's
+abbrev pub rangeListOf : Draft → List ℤ
+rangeListOf s = rangeList (s .declared ++ s .made .ranges)
+
+abbrev pub primitiveListOf : Draft → List ℤ
+primitiveListOf s = primitiveList (s .made .primitives)
+
+abbrev pub lengthListOf : Draft → List ℤ
+lengthListOf s = lengthList (s .made .clauses)
+
+abbrev pub literalListOf : Draft → List ℤ
+literalListOf s = literalList (literalsIn (s .made .clauses))
+
 -- the solve of an accepted sheet, with the filled fronts of the lists
-unfoldable pub solvedOf : Sheet → List ℕ
+unfoldable pub solvedOf : Draft → List ℕ
 solvedOf s =
-    let j = judged (rangeList (s .declared ++ s .made .ranges)) (primitiveList (s .made .primitives)) (lengthList (s .made .clauses)) (literalList (literalsIn (s .made .clauses))) (pos deskBudget) (deskPoint s) deskWork in
+    let j = judged (rangeListOf s) (primitiveListOf s) (lengthListOf s) (literalListOf s) (pos deskBudget) (deskPoint s) deskWork in
     let o = searchOf (problemIn s) deskBudget in
     let r = resultOf j deskBudget o in
     answerLines (r .answer) (r .sweeps) (s .names) (unless j (pointOf o (deskPoint s)) (deskPoint s))

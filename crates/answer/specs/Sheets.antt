@@ -11,7 +11,7 @@ use Rattle.search.specs.declared.Answer.{Answer}
 use Rattle.search.specs.declared.Answer.the-variants.{None, Found, Stopped}
 use Rattle.sheet.specs.Grammar.{Line}
 use Rattle.sheet.specs.Meaning.{Assignment, Obeys}
-use Rattle.translate.specs.Plain.{placeOf}
+use Rattle.meaning.specs.Plain.{placeOf}
 
 -- the values that an assignment gives the declared names, in order of declaration
 abbrev pub inOrder : List ℕ → Assignment → Point

@@ -5,7 +5,7 @@ ghost use mathlib.Core.Path.{_≡_};
 ghost use Prim.Native.Nat.{_≤_, _*_};
 ghost use lib.ListN.{length};
 ghost use Rattle.problem.specs.Grounds as problem_grounds;
-ghost use Rattle.translate.specs.Grounds as sheet_grounds;
+ghost use Rattle.meaning.specs.Grounds as sheet_grounds;
 ghost use Rattle.answer.specs.Output.{refusedLine, countLine, Answers};
 ghost use Rattle.answer.specs.inner.Writing.{Puts};
 ghost use Rattle.answer.specs.inner.Reporting.{reportOf, reportOn, Fronts};
@@ -41,22 +41,22 @@ pub fn solve_ground(refusal: problem::Refusal) -> usize
 }
 
 // Inner: document 01's number of a refusal of a sheet.
-pub fn sheet_ground(refusal: translate::Refusal) -> usize
+pub fn sheet_ground(refusal: meaning::Refusal) -> usize
     ensures { λ r. ⌜ r ≡ sheet_grounds.refusalNumber refusal ⌝ }
 {
     match refusal {
-        translate::Refusal::Lists => 19,
-        translate::Refusal::Text => 20,
-        translate::Refusal::FirstLine => 21,
-        translate::Refusal::Version => 22,
-        translate::Refusal::Brackets => 23,
-        translate::Refusal::Form => 24,
-        translate::Refusal::Names => 25,
-        translate::Refusal::Order => 26,
-        translate::Refusal::Equalities => 27,
-        translate::Refusal::Beyond => 28,
-        translate::Refusal::Many => 29,
-        translate::Refusal::Undeclared => 30,
+        meaning::Refusal::Lists => 19,
+        meaning::Refusal::Text => 20,
+        meaning::Refusal::FirstLine => 21,
+        meaning::Refusal::Version => 22,
+        meaning::Refusal::Brackets => 23,
+        meaning::Refusal::Form => 24,
+        meaning::Refusal::Names => 25,
+        meaning::Refusal::Order => 26,
+        meaning::Refusal::Equalities => 27,
+        meaning::Refusal::Beyond => 28,
+        meaning::Refusal::Many => 29,
+        meaning::Refusal::Undeclared => 30,
     }
 }
 

@@ -9,7 +9,7 @@ use Rattle.search.specs.declared.Answer.{Answer}
 use Rattle.search.specs.declared.Answer.the-variants as answer
 use Rattle.search.specs.declared.Solved.{Solved}
 use Rattle.sheet.specs.declared.Stretch.{Stretch}
-use Rattle.translate.specs.Grounds.{refusalNumber}
+use Rattle.meaning.specs.Grounds.{refusalNumber}
 use Rattle.translate.specs.Translate.{Translates}
 use Rattle.translate.specs.declared.Translated.{Translated}
 use Rattle.translate.specs.declared.Translated.the-variants.{Accepted, Refused}

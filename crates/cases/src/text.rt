@@ -82,6 +82,16 @@ pub fn next_field(text: &[u8], from: usize) -> usize {
     text.len()
 }
 
+// Where the next text of a line starts: behind the bar.
+pub fn behind_bar(table: &[u8], from: usize) -> usize {
+    for i in from..table.len() {
+        if byte(table, i) == b'|' {
+            return std::num::wrapping_add_usize(i, 1);
+        }
+    }
+    table.len()
+}
+
 // Where a field of the line at a place starts; the first is field 0.
 pub fn field(text: &[u8], from: usize, k: usize) -> usize {
     let mut at = from;

@@ -1,20 +1,10 @@
 // Sheets and their answers. Each line of a table is a case: a sheet, a bar, and what the desk prints for it. Where the sheet stands in
-// a file of its own, the case has the file's name, and the count of sweeps is left out of what is printed.
-use crate::unfold;
+// a file of its own, the case has the file's name.
 use cases::report;
 use cases::text;
+use cases::unfold;
 
 const SPACE: usize = 32;
-
-// Where the next text of a line starts: behind the bar.
-fn behind_bar(table: &[u8], from: usize) -> usize {
-    for i in from..table.len() {
-        if text::byte(table, i) == b'|' {
-            return std::num::wrapping_add_usize(i, 1);
-        }
-    }
-    table.len()
-}
 
 // Reads the file with a name that is in the front of a text; gives its length.
 fn read(name: &[u8], n: usize, room: &mut [u8]) -> usize {
@@ -88,8 +78,8 @@ fn agrees(
     out: &mut [u8; 4096],
 ) -> bool {
     let n = lay(table, from, named, room, other);
-    let length = answered(room, n, !named, out);
-    let m = unfold::unfold(table, behind_bar(table, from), other);
+    let length = answered(room, n, true, out);
+    let m = unfold::unfold(table, text::behind_bar(table, from), other);
     if length != m {
         return false;
     }

@@ -2,29 +2,11 @@
 // agreements; a disagreement prints its case.
 mod answers;
 mod drawing;
-mod grounds;
-mod lines;
 mod room;
 mod sheets;
 mod spelling;
 mod stack;
 mod trying;
-mod unfold;
-
-// The lines of a text.
-fn text_lines() {
-    let mut buffer = io::large_buffer();
-    let n = cases::table::load(b"lines.txt", &mut buffer);
-    lines::compare(&buffer[..n]);
-}
-
-// The refusals of sheets, with lists of the full sizes and with longer ones.
-fn sheet_refusals() {
-    let mut buffer = io::large_buffer();
-    let n = cases::table::load(b"grounds.txt", &mut buffer);
-    grounds::compare(b"refusals of sheets", &buffer[..n], 0);
-    grounds::compare(b"refusals with longer lists", &buffer[..n], 7);
-}
 
 // The document's examples.
 fn document_examples() {
@@ -40,11 +22,25 @@ fn desk_sheets() {
     answers::compare(b"sheets of the desk", &buffer[..n], true);
 }
 
+// Sheets whose sweeps were followed by hand.
+fn counted_sheets() {
+    let mut buffer = io::large_buffer();
+    let n = cases::table::load(b"counted.txt", &mut buffer);
+    answers::compare(b"counted sheets", &buffer[..n], false);
+}
+
+// Sheets with the answers of the second implementation.
+fn pinned_sheets() {
+    let mut buffer = io::large_buffer();
+    let n = cases::table::load(b"pins.txt", &mut buffer);
+    answers::compare(b"pinned sheets", &buffer[..n], false);
+}
+
 // Runs every group.
 fn main() {
-    sheet_refusals();
     document_examples();
     desk_sheets();
     sheets::compare();
-    text_lines();
+    counted_sheets();
+    pinned_sheets();
 }

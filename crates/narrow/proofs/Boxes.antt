@@ -7,12 +7,13 @@ use native.Mathlib.Omega.{arith}
 use lib.ListN.{length, getD, set, length-set, List·getD-eq-default}
 use lib.Seq.{getD-set-same, getD-set-other}
 use lib.IntN.{ℤ, pos}
-use lib.Signed.{_≤ℤ_, _<ℤ_}
+use lib.Signed.{_≤ℤ_}
 use Rattle.whole.proofs.Kit.{ints}
 use Rattle.whole.specs.Ranges.{range}
 use Rattle.whole.specs.declared.Range.{Range}
 use Rattle.problem.specs.Problem.{Box, lowAt, highAt, rangeAt}
 use Rattle.narrow.specs.Cuts.{putAt}
+use Rattle.narrow.specs.Parts.{Smaller}
 
 -- ---- each end is as it was, or is the one that was put
 set-or : (l : List ℤ) (i j : ℕ) (v d : ℤ) → (getD (set l i v) j d ≡ getD l j d) ⊎ ((j ≡ i) × (getD (set l i v) j d ≡ v))
@@ -68,12 +69,6 @@ within-trans {a} {b} {c} h k = record {
   high = λ q. omega (ints, h .high q, k .high q);
 }
 
--- one of the first n ranges of a has an end that b has further in
-pub record Smaller (n : ℕ) (a b : Box) : Type 0 where
-  pub place : ℕ
-  pub counted : place < n
-  pub less : (lowAt a place <ℤ lowAt b place) ⊎ (highAt b place <ℤ highAt a place)
-
 -- b is smaller than a, where a is a list of ranges
 abbrev pub Less : Box → Box → Type 0
 Less a b = (n : ℕ) → length a ≡ 2 * n → Smaller n a b
@@ -84,13 +79,6 @@ smaller-within {n} {a} {b} {c} s w = record {
   counted = s .counted;
   less = ⊎-elim (λ h. inl (omega (ints, w .low (s .place)))) (λ h. inr (omega (ints, w .high (s .place)))) (s .less);
 }
-
-pub smaller-differs : {n : ℕ} {a b : Box} → Smaller n a b → b ≡ a → ⊥
-smaller-differs {n} {a} {b} s e =
-    ⊎-elim
-    (λ h. let f = ap (λ (c : Box). lowAt c (s .place)) e in omega ints)
-    (λ h. let f = ap (λ (c : Box). highAt c (s .place)) e in omega ints)
-    (s .less)
 
 -- ---- every range has one value
 abbrev pub Single : Box → Type 0

@@ -5,17 +5,16 @@ use mathlib.Core.List.{List, [], _∷_}
 use mathlib.Core.Bool.{Bool, true, false, cond}
 use Prim.Native.Nat.{ℕ, _<_}
 use Rattle.whole.proofs.Kit.{ints}
-use Rattle.whole.specs.Lists.{AllOf, OneOf}
+use Rattle.whole.specs.Lists.{OneOf}
 use Rattle.whole.specs.Ranges.{Point}
 use Rattle.problem.specs.Problem.{Box, lowAt, Inside, True}
 use Rattle.problem.specs.declared.Literal.{Literal}
 use Rattle.problem.specs.declared.Literal.the-variants.{AtMost, AtLeast}
 use Rattle.narrow.specs.Narrowing.{isFalse, openOf, literalCut, unitCut, clauseStep}
-use Rattle.narrow.specs.inner.Clause.{quantityOf}
+use Rattle.narrow.specs.Named.{quantityOf, PlacedIn}
 use Rattle.narrow.proofs.Boxes.{Single}
 use Rattle.narrow.proofs.Cuts.{Quiet, Allows}
-use Rattle.narrow.proofs.Sites.{PlacedIn}
-use Rattle.narrow.proofs.Steps.{Sound}
+use Rattle.narrow.proofs.Steps.{LosesNone}
 
 module _ (n : ℕ) (p : Point) where
   -- the literal's quantity is among the first n, and it is true
@@ -47,7 +46,7 @@ module _ (n : ℕ) (p : Point) where
     unit-allows (l ∷ []) (inr s) = absurd s
     unit-allows (l ∷ (m ∷ ls)) s = tt
 
-  pub clause-sound : (ls : List Literal) → PlacedIn n ls → OneOf (True p) ls → Sound n p (clauseStep ls)
+  pub clause-sound : (ls : List Literal) → PlacedIn n ls → OneOf (True p) ls → LosesNone n p (clauseStep ls)
   clause-sound ls hs s b i = unit-allows b i (openOf b ls) (some-open b i ls hs s)
 
 -- ---- at one point's box a literal that is not false is true

@@ -13,24 +13,24 @@ use Rattle.narrow.proofs.Boxes.{Single}
 use Rattle.narrow.proofs.Clauses.{clause-sound, clause-point}
 use Rattle.narrow.proofs.Lists.{both, left, right}
 use Rattle.narrow.proofs.Products.{product-sound, product-point}
-use Rattle.narrow.proofs.Sites.{SitedIn, SitedAll, PlacedAll}
+use Rattle.narrow.specs.Named.{SitedIn, SitedAll, PlacedAll}
 use Rattle.narrow.proofs.Squares.{square-sound, square-point}
-use Rattle.narrow.proofs.Steps.{QuietAt, AllQuiet, Sound}
+use Rattle.narrow.proofs.Steps.{QuietAt, AllQuiet, LosesNone}
 use Rattle.narrow.proofs.Sums.{sum-sound, sum-point}
 
 -- ---- a point that meets every primitive and every clause is allowed by every step
 module _ (n : ℕ) (p : Point) where
-  primitive-sound : (c : Primitive) → SitedIn n c → Holds p c → AllOf (Sound n p) (primitiveSteps c)
+  primitive-sound : (c : Primitive) → SitedIn n c → Holds p c → AllOf (LosesNone n p) (primitiveSteps c)
   primitive-sound (Sum z x y) h m = sum-sound n p z x y h m
   primitive-sound (Product z x y) h m = product-sound n p z x y h m
   primitive-sound (Square z x) h m = square-sound n p z x h m
 
-  pub primitives-sound : (ps : List Primitive) → SitedAll n ps → AllOf (Holds p) ps → AllOf (Sound n p) (allSteps ps)
+  pub primitives-sound : (ps : List Primitive) → SitedAll n ps → AllOf (Holds p) ps → AllOf (LosesNone n p) (allSteps ps)
   unfolding allSteps
   primitives-sound [] hs ms = tt
-  primitives-sound (c ∷ ps) hs ms = both (Sound n p) (primitiveSteps c) (allSteps ps) (primitive-sound c (hs .0) (ms .0)) (primitives-sound ps (hs .1) (ms .1))
+  primitives-sound (c ∷ ps) hs ms = both (LosesNone n p) (primitiveSteps c) (allSteps ps) (primitive-sound c (hs .0) (ms .0)) (primitives-sound ps (hs .1) (ms .1))
 
-  pub clauses-sound : (cs : List (List Literal)) → PlacedAll n cs → AllOf (OneOf (True p)) cs → AllOf (Sound n p) (map clauseStep cs)
+  pub clauses-sound : (cs : List (List Literal)) → PlacedAll n cs → AllOf (OneOf (True p)) cs → AllOf (LosesNone n p) (map clauseStep cs)
   clauses-sound [] hs ms = tt
   clauses-sound (c ∷ cs) hs ms = (clause-sound n p c (hs .0) (ms .0), clauses-sound cs (hs .1) (ms .1))
 

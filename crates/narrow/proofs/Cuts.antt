@@ -11,8 +11,9 @@ use Rattle.whole.proofs.Kit.{ints, min-parts, max-parts}
 use Rattle.whole.specs.Ranges.{Point, In, range}
 use Rattle.whole.specs.declared.Range.{Range}
 use Rattle.problem.specs.Problem.{Box, lowAt, highAt, rangeAt, Inside}
-use Rattle.narrow.specs.Cuts.{meetOf, putAt, Result, gone, moved, still, cutTo, cutOf, Cut, stay, void, to, act}
-use Rattle.narrow.proofs.Boxes.{put-long, low-or, high-or, put-low, put-high, low-none, high-none, Within, Smaller, Less}
+use Rattle.narrow.specs.Cuts.{meetOf, putAt, Swept, empty, changed, unchanged, cutTo, cutOf, Cut, stay, void, to, act}
+use Rattle.narrow.specs.Parts.{Smaller}
+use Rattle.narrow.proofs.Boxes.{put-long, low-or, high-or, put-low, put-high, low-none, high-none, Within, Less}
 
 -- ---- what a step asks changes nothing
 abbrev pub Quiet : Box → Cut → Type 0
@@ -21,10 +22,10 @@ Quiet b void = ⊥
 Quiet b (to q s) = (s .low ≤ℤ lowAt b q) × (highAt b q ≤ℤ s .high)
 
 -- what can become of b: a range is empty; or it is within b, and less; or it is b still, and then Q holds
-pub data Outcome (b : Box) (Q : Type 0) : Result → Type 0 where
-  ends : Outcome b Q gone
-  moves : {b′ : Box} → Within b b′ → Less b b′ → Outcome b Q (moved b′)
-  rests : Q → Outcome b Q (still b)
+pub data Outcome (b : Box) (Q : Type 0) : Swept → Type 0 where
+  ends : Outcome b Q empty
+  moves : {b′ : Box} → Within b b′ → Less b b′ → Outcome b Q (changed b′)
+  rests : Q → Outcome b Q (unchanged b)
 
 -- ---- one cut
 abbrev newAt : Box → ℕ → Range → Range
@@ -59,7 +60,7 @@ unfolding cutOf cutTo
 cut-is q s b = go (ltZ (newAt b q s .high) (newAt b q s .low)) refl (ltZ (lowAt b q) (newAt b q s .low)) refl (ltZ (newAt b q s .high) (highAt b q)) refl
   where
     go : (t : Bool) → ltZ (newAt b q s .high) (newAt b q s .low) ≡ t → (u : Bool) → ltZ (lowAt b q) (newAt b q s .low) ≡ u → (v : Bool) → ltZ (newAt b q s .high) (highAt b q) ≡ v
-        → Outcome b (Quiet b (to q s)) (cond t gone (cond u (moved (putAt b q (newAt b q s))) (cond v (moved (putAt b q (newAt b q s))) (still b))))
+        → Outcome b (Quiet b (to q s)) (cond t empty (cond u (changed (putAt b q (newAt b q s))) (cond v (changed (putAt b q (newAt b q s))) (unchanged b))))
     go true e u f v g = ends
     go false e true f v g = let h : newAt b q s .low ≤ℤ newAt b q s .high = omega ints in moves (put-within b q s h) (put-smaller b q s h (inl (omega ints)))
     go false e false f true g = let h : newAt b q s .low ≤ℤ newAt b q s .high = omega ints in moves (put-within b q s h) (put-smaller b q s h (inr (omega ints)))
@@ -69,20 +70,6 @@ pub act-is : (k : Cut) (b : Box) → Outcome b (Quiet b k) (act k b)
 act-is stay b = rests tt
 act-is void b = ends
 act-is (to q s) b = cut-is q s b
-
--- a quiet step leaves the box, as far as no range is empty
-pub quiet-act : (k : Cut) (b : Box) → ((q : ℕ) → lowAt b q ≤ℤ highAt b q) → Quiet b k → act k b ≡ still b
-unfolding cutOf cutTo
-quiet-act stay b f h = refl
-quiet-act void b f h = absurd h
-quiet-act (to q s) b f h =
-    let i = f q in
-    let lo = max-parts (lowAt b q) (s .low) in
-    let hi = min-parts (highAt b q) (s .high) in
-    let e : ltZ (newAt b q s .high) (newAt b q s .low) ≡ false = omega ints in
-    let g : ltZ (lowAt b q) (newAt b q s .low) ≡ false = omega ints in
-    let k : ltZ (newAt b q s .high) (highAt b q) ≡ false = omega ints in
-    rw (e, g, k)
 
 -- a quiet cut to one value, of a range of one value: it is that value
 pub quiet-value : (b : Box) (q : ℕ) (s : Range) (v : ℤ) → lowAt b q ≡ highAt b q → s ≡ range v v → Quiet b (to q s) → lowAt b q ≡ v
@@ -95,11 +82,11 @@ Allows n p stay = Unit {0}
 Allows n p void = ⊥
 Allows n p (to q s) = (q < n) × In s (p q)
 
--- not gone, and the point is inside
-abbrev pub Keeps : ℕ → Point → Result → Type 0
-Keeps n p gone = ⊥
-Keeps n p (moved b) = Inside n p b
-Keeps n p (still b) = Inside n p b
+-- not empty, and the point is inside
+abbrev pub Keeps : ℕ → Point → Swept → Type 0
+Keeps n p empty = ⊥
+Keeps n p (changed b) = Inside n p b
+Keeps n p (unchanged b) = Inside n p b
 
 module _ (n : ℕ) (p : Point) where
   put-inside : (b : Box) (q : ℕ) (s : Range) → Inside n p b → In s (p q) → Inside n p (putAt b q (newAt b q s))
@@ -114,7 +101,7 @@ module _ (n : ℕ) (p : Point) where
   unfolding cutOf cutTo
   cut-keeps b q s i h j = go (ltZ (newAt b q s .high) (newAt b q s .low)) refl (ltZ (lowAt b q) (newAt b q s .low)) (ltZ (newAt b q s .high) (highAt b q))
     where
-      go : (t : Bool) → ltZ (newAt b q s .high) (newAt b q s .low) ≡ t → (u v : Bool) → Keeps n p (cond t gone (cond u (moved (putAt b q (newAt b q s))) (cond v (moved (putAt b q (newAt b q s))) (still b))))
+      go : (t : Bool) → ltZ (newAt b q s .high) (newAt b q s .low) ≡ t → (u v : Bool) → Keeps n p (cond t empty (cond u (changed (putAt b q (newAt b q s))) (cond v (changed (putAt b q (newAt b q s))) (unchanged b))))
       go true e u v = let x = i .each q h in omega (ints, max-parts (lowAt b q) (s .low), min-parts (highAt b q) (s .high))
       go false e true v = put-inside b q s i j
       go false e false true = put-inside b q s i j

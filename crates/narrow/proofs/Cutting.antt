@@ -18,29 +18,29 @@ use Rattle.whole.proofs.Held.{Meeting, neither, alike, meeting}
 use Rattle.whole.proofs.Spans.{ends-is}
 use Rattle.problem.proofs.Tests.{by-bool}
 use Rattle.problem.specs.Problem.{Box, lowAt, highAt, rangeAt}
-use Rattle.narrow.specs.Cuts.{meetOf, putAt, Result, gone, moved, still, cutTo, cutOf, Cut, stay, to, Step, act, marked, next, steps}
-use Rattle.narrow.specs.inner.Done.{Has, Fine, Seen, Replaced, resultAs, Done}
+use Rattle.narrow.specs.Cuts.{meetOf, putAt, Swept, empty, changed, unchanged, cutTo, cutOf, Cut, stay, to, Step, act, marked, next, steps}
+use Rattle.narrow.specs.inner.Done.{Has, Fine, Seen, Replaced, sweptAs, Done}
 use Rattle.narrow.specs.declared.Status.{Status}
 use Rattle.narrow.specs.declared.Status.the-variants.{Empty, Changed, Same}
 use Rattle.narrow.proofs.Status.{the-type as status-type}
 use Rattle.narrow.proofs.Boxes.{put-long, low-or, high-or, put-low, put-high}
 use Rattle.narrow.proofs.Cuts.{Quiet}
-use Rattle.narrow.proofs.Steps.{steps-append, steps-gone}
+use Rattle.narrow.proofs.Steps.{steps-append, steps-empty}
 
 -- ---- the definition, test by test
 module _ (q : ℕ) (old new : Range) (b : Box) where
-  cut-gone : new .high <ℤ new .low → cutTo q old new b ≡ gone
+  cut-none : new .high <ℤ new .low → cutTo q old new b ≡ empty
   unfolding cutTo
-  cut-gone h = let e : ltZ (new .high) (new .low) ≡ true = omega ints in rw e
+  cut-none h = let e : ltZ (new .high) (new .low) ≡ true = omega ints in rw e
 
-  cut-raised : new .low ≤ℤ new .high → old .low <ℤ new .low → cutTo q old new b ≡ moved (putAt b q new)
+  cut-raised : new .low ≤ℤ new .high → old .low <ℤ new .low → cutTo q old new b ≡ changed (putAt b q new)
   unfolding cutTo
   cut-raised h k =
       let e : ltZ (new .high) (new .low) ≡ false = omega ints in
       let f : ltZ (old .low) (new .low) ≡ true = omega ints in
       rw (e, f)
 
-  cut-lowered : new .low ≤ℤ new .high → new .low ≤ℤ old .low → new .high <ℤ old .high → cutTo q old new b ≡ moved (putAt b q new)
+  cut-lowered : new .low ≤ℤ new .high → new .low ≤ℤ old .low → new .high <ℤ old .high → cutTo q old new b ≡ changed (putAt b q new)
   unfolding cutTo
   cut-lowered h k l =
       let e : ltZ (new .high) (new .low) ≡ false = omega ints in
@@ -48,7 +48,7 @@ module _ (q : ℕ) (old new : Range) (b : Box) where
       let g : ltZ (new .high) (old .high) ≡ true = omega ints in
       rw (e, f, g)
 
-  cut-same : new .low ≤ℤ new .high → new .low ≤ℤ old .low → old .high ≤ℤ new .high → cutTo q old new b ≡ still b
+  cut-same : new .low ≤ℤ new .high → new .low ≤ℤ old .low → old .high ≤ℤ new .high → cutTo q old new b ≡ unchanged b
   unfolding cutTo
   cut-same h k l =
       let e : ltZ (new .high) (new .low) ≡ false = omega ints in
@@ -57,16 +57,12 @@ module _ (q : ℕ) (old new : Range) (b : Box) where
       rw (e, f, g)
 
 -- ---- spans that cut alike
-pub cut-alike : (q : ℕ) (s t : Range) (b : Box) → meetOf (rangeAt b q) s ≡ meetOf (rangeAt b q) t → cutOf q s b ≡ cutOf q t b
-unfolding cutOf
-cut-alike q s t b e = ap (λ (n : Range). cutTo q (rangeAt b q) n b) e
-
 pub cut-held : (q : ℕ) (s : Range) (b : Box) → Good (rangeAt b q) → cutOf q (heldSpan s) b ≡ cutOf q s b
 unfolding cutOf
 cut-held q s b g = go (meeting (rangeAt b q) s g)
   where
     go : Meeting (rangeAt b q) s → cutTo q (rangeAt b q) (meetOf (rangeAt b q) (heldSpan s)) b ≡ cutTo q (rangeAt b q) (meetOf (rangeAt b q) s) b
-    go (neither h k) = cut-gone q (rangeAt b q) (meetOf (rangeAt b q) (heldSpan s)) b k ∙ sym (cut-gone q (rangeAt b q) (meetOf (rangeAt b q) s) b h)
+    go (neither h k) = cut-none q (rangeAt b q) (meetOf (rangeAt b q) (heldSpan s)) b k ∙ sym (cut-none q (rangeAt b q) (meetOf (rangeAt b q) s) b h)
     go (alike h e f) = ap (λ (n : Range). cutTo q (rangeAt b q) n b) (ends-is e f)
 
 -- ---- a range put in a fine box
@@ -102,18 +98,18 @@ module _ (q : ℕ) (s : Range) (p : Status) (b : Box) (f : Fine b) (h : Has b q)
   new-good : new .low ≤ℤ new .high → Good new
   new-good k = subst Good (sym met) (meet-good old s (seen .good) (subst (λ (x : Range). x .low ≤ℤ x .high) met k))
 
-  pub done-gone : new .high <ℤ new .low → Done ((λ _. to q s) ∷ []) p b Empty b
-  done-gone k = record { says = sym (all p); fine = f }
+  pub done-none : new .high <ℤ new .low → Done ((λ _. to q s) ∷ []) p b Empty b
+  done-none k = record { says = sym (all p); fine = f }
     where
-      all : (p : Status) → next (resultAs p b) (λ _. to q s) ≡ gone
+      all : (p : Status) → next (sweptAs p b) (λ _. to q s) ≡ empty
       all Empty = refl
-      all Changed = ap marked (cut-is ∙ cut-gone q old new b k)
-      all Same = cut-is ∙ cut-gone q old new b k
+      all Changed = ap marked (cut-is ∙ cut-none q old new b k)
+      all Same = cut-is ∙ cut-none q old new b k
 
-  put-done : (p ≡ Empty → ⊥) → new .low ≤ℤ new .high → cutTo q old new b ≡ moved (putAt b q new) → (b′ : Box) → b′ ≡ putAt b q new → Done ((λ _. to q s) ∷ []) p b Changed b′
-  put-done n k e b′ eb = record { says = ap moved eb ∙ sym (all p n); fine = subst Fine (sym eb) (put-fine b q new h (new-good k) f) }
+  put-done : (p ≡ Empty → ⊥) → new .low ≤ℤ new .high → cutTo q old new b ≡ changed (putAt b q new) → (b′ : Box) → b′ ≡ putAt b q new → Done ((λ _. to q s) ∷ []) p b Changed b′
+  put-done n k e b′ eb = record { says = ap changed eb ∙ sym (all p n); fine = subst Fine (sym eb) (put-fine b q new h (new-good k) f) }
     where
-      all : (p : Status) → (p ≡ Empty → ⊥) → next (resultAs p b) (λ _. to q s) ≡ moved (putAt b q new)
+      all : (p : Status) → (p ≡ Empty → ⊥) → next (sweptAs p b) (λ _. to q s) ≡ changed (putAt b q new)
       all Empty n = absurd (n refl)
       all Changed n = ap marked (cut-is ∙ e)
       all Same n = cut-is ∙ e
@@ -127,31 +123,31 @@ module _ (q : ℕ) (s : Range) (p : Status) (b : Box) (f : Fine b) (h : Has b q)
   pub done-same : new .low ≤ℤ new .high → new .low ≤ℤ old .low → old .high ≤ℤ new .high → Done ((λ _. to q s) ∷ []) p b p b
   done-same k l m = record { says = sym (all p); fine = f }
     where
-      all : (p : Status) → next (resultAs p b) (λ _. to q s) ≡ resultAs p b
+      all : (p : Status) → next (sweptAs p b) (λ _. to q s) ≡ sweptAs p b
       all Empty = refl
       all Changed = ap marked (cut-is ∙ cut-same q old new b k l m)
       all Same = cut-is ∙ cut-same q old new b k l m
 
   -- ---- and `replace`, where an end moves
   module _ {r : Status} {b′ : Box} (d : Replaced q new b r b′) (n : p ≡ Empty → ⊥) where
-    done-some : new .low ≤ℤ new .high → cutTo q old new b ≡ moved (putAt b q new) → Done ((λ _. to q s) ∷ []) p b r b′
+    done-some : new .low ≤ℤ new .high → cutTo q old new b ≡ changed (putAt b q new) → Done ((λ _. to q s) ∷ []) p b r b′
     done-some k e = let g = d .some k in subst (λ (x : Status). Done ((λ _. to q s) ∷ []) p b x b′) (sym (g .0)) (put-done n k e b′ (g .1))
 
     pub done-replaced : (old .low <ℤ new .low) ⊎ (new .high <ℤ old .high) → Done ((λ _. to q s) ∷ []) p b r b′
     done-replaced m =
         ⊎-elim
-        (λ k. let g = d .none k in subst (λ (x : Status). Done ((λ _. to q s) ∷ []) p b x b′) (sym (g .0)) (subst (Done ((λ _. to q s) ∷ []) p b Empty) (sym (g .1)) (done-gone k)))
+        (λ k. let g = d .none k in subst (λ (x : Status). Done ((λ _. to q s) ∷ []) p b x b′) (sym (g .0)) (subst (Done ((λ _. to q s) ∷ []) p b Empty) (sym (g .1)) (done-none k)))
         (λ k. done-some k (⊎-elim (cut-raised q old new b k) (λ l. cut-lowered q old new b k l (⊎-elim (λ i. absurd (omega ints)) (λ i. i) m)) (lt-or-le (old .low) (new .low))))
         (lt-or-le (new .high) (new .low))
 
 -- ---- a step done
 -- a step that says a cut does what the cut does
-pub next-at : (st : Step) (k : Cut) (p : Status) (b : Box) → st b ≡ k → next (resultAs p b) (λ _. k) ≡ next (resultAs p b) st
+pub next-at : (st : Step) (k : Cut) (p : Status) (b : Box) → st b ≡ k → next (sweptAs p b) (λ _. k) ≡ next (sweptAs p b) st
 next-at st k Empty b e = refl
 next-at st k Changed b e = ap (λ (x : Cut). marked (act x b)) (sym e)
 next-at st k Same b e = ap (λ (x : Cut). act x b) (sym e)
 
-next-cut : (q : ℕ) (s t : Range) (p : Status) (b : Box) → cutOf q s b ≡ cutOf q t b → next (resultAs p b) (λ _. to q s) ≡ next (resultAs p b) (λ _. to q t)
+next-cut : (q : ℕ) (s t : Range) (p : Status) (b : Box) → cutOf q s b ≡ cutOf q t b → next (sweptAs p b) (λ _. to q s) ≡ next (sweptAs p b) (λ _. to q t)
 next-cut q s t Empty b e = refl
 next-cut q s t Changed b e = ap marked e
 next-cut q s t Same b e = e
@@ -168,14 +164,10 @@ module _ (st : Step) {q : ℕ} {s t : Range} {p r : Status} {b b′ : Box} (e : 
   pub done-held : Good (rangeAt b q) → s ≡ heldSpan t → Done (st ∷ []) p b r b′
   done-held g f = done-by (ap (λ (x : Range). cutOf q x b) f ∙ cut-held q t b g)
 
-  -- or one that has the same in common with the old range
-  pub done-meet : meetOf (rangeAt b q) s ≡ meetOf (rangeAt b q) t → Done (st ∷ []) p b r b′
-  done-meet f = done-by (cut-alike q s t b f)
-
 pub done-stay : (st : Step) (p : Status) (b : Box) → Fine b → st b ≡ stay → Done (st ∷ []) p b p b
 done-stay st p b f e = record { says = all p ∙ next-at st stay p b e; fine = f }
   where
-    all : (p : Status) → resultAs p b ≡ next (resultAs p b) (λ _. stay)
+    all : (p : Status) → sweptAs p b ≡ next (sweptAs p b) (λ _. stay)
     all Empty = refl
     all Changed = refl
     all Same = refl
@@ -191,10 +183,10 @@ done-quiet st {q} {t} p b f h e l u =
     done-by st e (done-same q t p b f h (rangeAt b q) new (record { is = refl; good = g }) refl (omega ints) (omega ints) (omega ints)) refl
 
 -- ---- after a cut that leaves something the same cut is quiet
-abbrev Settled : ℕ → Range → Result → Type 0
-Settled q t gone = Unit {0}
-Settled q t (moved b) = Quiet b (to q t)
-Settled q t (still b) = Quiet b (to q t)
+abbrev Settled : ℕ → Range → Swept → Type 0
+Settled q t empty = Unit {0}
+Settled q t (changed b) = Quiet b (to q t)
+Settled q t (unchanged b) = Quiet b (to q t)
 
 module _ (q : ℕ) (t : Range) (b : Box) (h : Has b q) where
   abbrev new : Range
@@ -208,26 +200,26 @@ module _ (q : ℕ) (t : Range) (b : Box) (h : Has b q) where
   unfolding cutOf cutTo
   cut-settled = go (ltZ (new .high) (new .low)) (ltZ (lowAt b q) (new .low)) refl (ltZ (new .high) (highAt b q)) refl
     where
-      go : (e f : Bool) → ltZ (lowAt b q) (new .low) ≡ f → (g : Bool) → ltZ (new .high) (highAt b q) ≡ g → Settled q t (cond e gone (cond f (moved (putAt b q new)) (cond g (moved (putAt b q new)) (still b))))
+      go : (e f : Bool) → ltZ (lowAt b q) (new .low) ≡ f → (g : Bool) → ltZ (new .high) (highAt b q) ≡ g → Settled q t (cond e empty (cond f (changed (putAt b q new)) (cond g (changed (putAt b q new)) (unchanged b))))
       go true f k g l = tt
       go false true k g l = put-settled
       go false false k true l = put-settled
       go false false k false l = (omega (ints, max-parts (lowAt b q) (t .low)), omega (ints, min-parts (highAt b q) (t .high)))
 
-  next-settled : (p : Status) → Settled q t (next (resultAs p b) (λ _. to q t))
+  next-settled : (p : Status) → Settled q t (next (sweptAs p b) (λ _. to q t))
   next-settled Empty = tt
   next-settled Changed = go (cutOf q t b) cut-settled
     where
-      go : (r : Result) → Settled q t r → Settled q t (marked r)
-      go gone k = k
-      go (moved c) k = k
-      go (still c) k = k
+      go : (r : Swept) → Settled q t r → Settled q t (marked r)
+      go empty k = k
+      go (changed c) k = k
+      go (unchanged c) k = k
   next-settled Same = cut-settled
 
 pub done-settled : (st : Step) {q : ℕ} {t : Range} {p r : Status} {b b′ : Box} → st b ≡ to q t → Has b q → Done (st ∷ []) p b r b′ → (r ≡ Empty → ⊥) → Quiet b′ (to q t)
 done-settled st {q} {t} {p} {r} {b} {b′} e h d n = go r n (subst (Settled q t) (next-at st (to q t) p b e ∙ sym (d .says)) (next-settled q t b h p))
   where
-    go : (r : Status) → (r ≡ Empty → ⊥) → Settled q t (resultAs r b′) → Quiet b′ (to q t)
+    go : (r : Status) → (r ≡ Empty → ⊥) → Settled q t (sweptAs r b′) → Quiet b′ (to q t)
     go Empty n k = absurd (n refl)
     go Changed n k = k
     go Same n k = k
@@ -235,7 +227,7 @@ done-settled st {q} {t} {p} {r} {b} {b′} e h d n = go r n (subst (Settled q t)
 -- ---- one after the other
 pub done-then : {ss ts : List Step} {p r t : Status} {a b c : Box} → Done ss p a r b → Done ts r b t c → Done (ss ++ ts) p a t c
 done-then {ss} {ts} {p} {r} {t} {a} {b} {c} d e =
-    record { says = e .says ∙ ap (λ (x : Result). steps x ts) (d .says) ∙ sym (steps-append (resultAs p a) ss ts); fine = e .fine }
+    record { says = e .says ∙ ap (λ (x : Swept). steps x ts) (d .says) ∙ sym (steps-append (sweptAs p a) ss ts); fine = e .fine }
 
 -- the same status and box, by another name
 pub done-at : {ss : List Step} {p r r′ : Status} {a b b′ : Box} → b ≡ b′ → r ≡ r′ → Done ss p a r b → Done ss p a r′ b′
@@ -243,7 +235,7 @@ done-at {ss} {p} {r} {r′} {a} {b} {b′} e f d = subst (λ (x : Status). Done 
 
 -- after an empty range nothing follows
 pub done-empty : {ss : List Step} {p : Status} {a b : Box} → Done ss p a Empty b → (ts : List Step) → Done (ss ++ ts) p a Empty b
-done-empty {ss} {p} {a} {b} d ts = done-then d (record { says = sym (steps-gone ts); fine = d .fine })
+done-empty {ss} {p} {a} {b} d ts = done-then d (record { says = sym (steps-empty ts); fine = d .fine })
 
 pub done-ended : {ss : List Step} {p r : Status} {a b : Box} → Done ss p a r b → r ≡ Empty → (ts : List Step) → Done (ss ++ ts) p a Empty b
 done-ended {ss} {p} {r} {a} {b} d e ts = done-empty (subst (λ (x : Status). Done ss p a x b) e d) ts

@@ -1,5 +1,5 @@
 -- Quotients by two divisions: a quotient by a number above 0 grows with what is divided, and falls or grows with the divisor by the sign of what is divided; with both signs turned it is the same.
-use mathlib.Core.Path.{_≡_, refl, sym, ap, ap₂, subst, _∙_}
+use mathlib.Core.Path.{_≡_, sym, ap, ap₂, subst, _∙_}
 use mathlib.Core.Logic.{_⊎_, inl, inr, ⊎-elim}
 use mathlib.Core.Bool.{Bool, true, false}
 use Prim.Native.Nat.{ℕ}
@@ -10,7 +10,7 @@ use Rattle.whole.specs.Numbers.{Near, minZ, maxZ, min4, max4, floorQ, ceilQ}
 use Rattle.whole.specs.Ranges.{range, holdsZero}
 use Rattle.whole.specs.inner.Held.{Good}
 use Rattle.whole.specs.declared.Range.{Range}
-use Rattle.whole.proofs.Kit.{ints, times, cross, min-parts, max-parts, neg-P, neg-N, lt-or-le, *ℤ-mono}
+use Rattle.whole.proofs.Kit.{ints, times, cross, min-parts, max-parts, neg-positive, neg-negative, lt-or-le, *ℤ-mono}
 use Rattle.whole.proofs.Division.{floor-under, ceiling-over}
 use Rattle.whole.proofs.Quotients.{floor-from, floor-to, ceiling-from, ceiling-to, floor-mono, ceiling-mono, floor-turned, ceiling-turned}
 use Rattle.whole.proofs.Spans.{ends-is}
@@ -170,10 +170,10 @@ abbrev pub turned : Range → Range
 turned r = range (negℤ (r .high)) (negℤ (r .low))
 
 pub turned-good : (r : Range) → Good r → Good (turned r)
-turned-good r g = let l = g .low in let h = g .high in let o = g .ordered in omega (ints, neg-P (r .low), neg-N (r .low), neg-P (r .high), neg-N (r .high))
+turned-good r g = let l = g .low in let h = g .high in let o = g .ordered in omega (ints, neg-positive (r .low), neg-negative (r .low), neg-positive (r .high), neg-negative (r .high))
 
 pub turned-above : (r : Range) → r .high <ℤ pos 0 → pos 0 <ℤ turned r .low
-turned-above r h = omega (ints, neg-P (r .high), neg-N (r .high))
+turned-above r h = omega (ints, neg-positive (r .high), neg-negative (r .high))
 
 min-comm : (a b : ℤ) → minZ a b ≡ minZ b a
 min-comm a b = omega (ints, min-parts a b, min-parts b a)
@@ -204,10 +204,10 @@ turned-span z y o h =
 -- the end of y below 0 that gives the least, and the one that gives the greatest
 module _ (z y : Range) (gy : Good y) (h : y .high <ℤ pos 0) (l : ℤ) where
   apart-from : {a : ℤ} → pos 0 <ℤ negℤ a → a ≡ pos 0 → ⊥
-  apart-from {a} i e = omega (ints, neg-P a, neg-N a)
+  apart-from {a} i e = omega (ints, neg-positive a, neg-negative a)
 
   below-divides : Divisor (negℤ l) → Near l × (l ≡ pos 0 → ⊥)
-  below-divides d = let n = d .near in (omega (ints, neg-P l, neg-N l), apart-from (d .above))
+  below-divides d = let n = d .near in (omega (ints, neg-positive l, neg-negative l), apart-from (d .above))
 
   pub least-below-divides : Least (turned z) (turned y) (negℤ l) → Near l × (l ≡ pos 0 → ⊥)
   least-below-divides p = below-divides (least-divides (turned z) (turned y) (turned-good y gy) (turned-above y h) (negℤ l) p)

@@ -5,12 +5,12 @@ pub mod Cuts
 pub mod Cutting
 pub mod Divided
 pub mod Lists
-pub mod Needed
 pub mod Products
+pub mod Promises
 pub mod Quotients
 pub mod Reading
+pub mod Rounding
 pub mod Rooted
-pub mod Sites
 pub mod Squares
 pub mod Steps
 pub mod Sums

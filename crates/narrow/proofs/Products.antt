@@ -15,8 +15,8 @@ use Rattle.narrow.specs.Narrowing.{quotientSpan, quotientCut, productSte
 use Rattle.narrow.proofs.Boxes.{Single, single-range}
 use Rattle.narrow.proofs.Cuts.{Quiet, quiet-value, Allows}
 use Rattle.narrow.proofs.Quotients.{quotient-in}
-use Rattle.narrow.proofs.Sites.{SitedIn}
-use Rattle.narrow.proofs.Steps.{Sound}
+use Rattle.narrow.specs.Named.{SitedIn}
+use Rattle.narrow.proofs.Steps.{LosesNone}
 
 quotient-allows : (n : ℕ) (p : Point) (x : ℕ) (z y : Range) (w v : ℤ) → x < n → In z w → In y v → w ≡ p x *ℤ v → Allows n p (quotientCut x z y)
 quotient-allows n p x z y w v h i j e = go (holdsZero y) refl
@@ -25,7 +25,7 @@ quotient-allows n p x z y w v h i j e = go (holdsZero y) refl
     go true f = tt
     go false f = (h, quotient-in z y w (p x) v f i j e)
 
-pub product-sound : (n : ℕ) (p : Point) (z x y : ℕ) → SitedIn n (Product z x y) → Holds p (Product z x y) → AllOf (Sound n p) (productSteps z x y)
+pub product-sound : (n : ℕ) (p : Point) (z x y : ℕ) → SitedIn n (Product z x y) → Holds p (Product z x y) → AllOf (LosesNone n p) (productSteps z x y)
 product-sound n p z x y h e = (
   λ b i. (h .0, subst (In (productSpan (rangeAt b x) (rangeAt b y))) (sym e) (product-in (rangeAt b x) (rangeAt b y) (p x) (p y) (i .each x (h .1 .0)) (i .each y (h .1 .1)))),
   (

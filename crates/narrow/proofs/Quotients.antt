@@ -6,12 +6,11 @@ use lib.IntN.{ℤ, pos, _*ℤ_}
 use lib.Signed.{_≤ℤ_, _<ℤ_}
 use Rattle.whole.proofs.Kit.{ints, times, cross, sign}
 use Rattle.whole.proofs.Meaning.{floor-is, ceiling-is}
-use Rattle.whole.proofs.Spans.{clear}
+use Rattle.whole.proofs.Spans.{Least, least-of, Most, most-of, clear}
 use Rattle.whole.specs.Numbers.{floorQ, ceilQ}
 use Rattle.whole.specs.Ranges.{In, holdsZero}
 use Rattle.whole.specs.declared.Range.{Range}
 use Rattle.narrow.specs.Narrowing.{quotientSpan}
-use Rattle.narrow.proofs.Needed.{Least, least-of, Most, most-of}
 
 -- u * v runs between u * c and u * d, one way or the other
 data Run (u c v d : ℤ) : Type 0 where

@@ -10,7 +10,7 @@ use Rattle.whole.specs.Numbers.{Near, minZ, maxZ, rootDown, rootUp}
 use Rattle.whole.specs.Ranges.{range, holdsZero, squareSpan}
 use Rattle.whole.specs.inner.Held.{held, Is, Good}
 use Rattle.whole.specs.declared.Range.{Range}
-use Rattle.whole.proofs.Kit.{ints, at, rn, call2, by-test, square-N, min-parts, max-parts, lt-or-le}
+use Rattle.whole.proofs.Kit.{ints, at, rn, call2, by-test, square-negative, min-parts, max-parts, lt-or-le}
 use Rattle.whole.proofs.Calls.{times-is}
 use Rattle.whole.proofs.Held.{held-le, le-held}
 use Rattle.whole.proofs.Roots.{root-in, in-root, up-from, up-to, up-turned-from, up-turned-to}
@@ -135,7 +135,7 @@ module _ (x z : ℕ) (p : Status) (b : Box) (f : Fine b) (has : Has b x) {rx : R
 
 -- ---- a square is not below 0
 square-least-is : (x : Range) → pos 0 ≤ℤ squareSpan x .low
-square-least-is x = by-test (holdsZero x) (pos 0) (minZ (x .low *ℤ x .low) (x .high *ℤ x .high)) (λ (v : ℤ). pos 0 ≤ℤ v) (λ _. omega ints) (λ _. omega (ints, square-N (x .low), square-N (x .high), min-parts (x .low *ℤ x .low) (x .high *ℤ x .high)))
+square-least-is x = by-test (holdsZero x) (pos 0) (minZ (x .low *ℤ x .low) (x .high *ℤ x .high)) (λ (v : ℤ). pos 0 ≤ℤ v) (λ _. omega ints) (λ _. omega (ints, square-negative (x .low), square-negative (x .high), min-parts (x .low *ℤ x .low) (x .high *ℤ x .high)))
 
 pub square-leaves : (z x : ℕ) {p r : Status} {b b′ : Box} → Has b z → Has b′ z → Done (squareStep z x ∷ []) p b r b′ → (r ≡ Empty → ⊥) → pos 0 ≤ℤ highAt b′ z
 square-leaves z x {p} {r} {b} {b′} h h′ d n =

@@ -17,8 +17,8 @@ use Rattle.narrow.specs.Cuts.{stay, to}
 use Rattle.narrow.specs.Narrowing.{raiseCut, lowerCut, squareStep, squareSteps}
 use Rattle.narrow.proofs.Boxes.{Single, single-range}
 use Rattle.narrow.proofs.Cuts.{Quiet, quiet-value, Allows}
-use Rattle.narrow.proofs.Sites.{SitedIn}
-use Rattle.narrow.proofs.Steps.{Sound}
+use Rattle.narrow.specs.Named.{SitedIn}
+use Rattle.narrow.proofs.Steps.{LosesNone}
 
 module _ (n : ℕ) (p : Point) (q : ℕ) (x z : Range) (w : ℤ) (h : q < n) (i : In x (p q)) (j : In z w) (e : w ≡ p q *ℤ p q) where
   raise-allows : Allows n p (raiseCut q x z)
@@ -35,7 +35,7 @@ module _ (n : ℕ) (p : Point) (q : ℕ) (x z : Range) (w : ℤ) (h : q < n) (i 
       go true f = (h, record { above = i .above; below = up-turned-from (p q) (z .low) (omega ints) (omega ints) })
       go false f = tt
 
-pub square-sound : (n : ℕ) (p : Point) (z x : ℕ) → SitedIn n (Square z x) → Holds p (Square z x) → AllOf (Sound n p) (squareSteps z x)
+pub square-sound : (n : ℕ) (p : Point) (z x : ℕ) → SitedIn n (Square z x) → Holds p (Square z x) → AllOf (LosesNone n p) (squareSteps z x)
 square-sound n p z x h e = (
   λ b i. (h .0, subst (In (squareSpan (rangeAt b x))) (sym e) (square-in (rangeAt b x) (p x) (i .each x (h .1)))),
   (

@@ -11,10 +11,10 @@ use Rattle.problem.specs.declared.Primitive.the-variants.{Sum}
 use Rattle.narrow.specs.Narrowing.{sumStep, sumSteps}
 use Rattle.narrow.proofs.Boxes.{Single, single-range}
 use Rattle.narrow.proofs.Cuts.{Quiet, quiet-value}
-use Rattle.narrow.proofs.Sites.{SitedIn}
-use Rattle.narrow.proofs.Steps.{Sound}
+use Rattle.narrow.specs.Named.{SitedIn}
+use Rattle.narrow.proofs.Steps.{LosesNone}
 
-pub sum-sound : (n : ℕ) (p : Point) (z x y : ℕ) → SitedIn n (Sum z x y) → Holds p (Sum z x y) → AllOf (Sound n p) (sumSteps z x y)
+pub sum-sound : (n : ℕ) (p : Point) (z x y : ℕ) → SitedIn n (Sum z x y) → Holds p (Sum z x y) → AllOf (LosesNone n p) (sumSteps z x y)
 sum-sound n p z x y h e =
     let ex : p z -ℤ p y ≡ p x = omega (ints, plus (p x) (p y), minus (p z) (p y)) in
     let ey : p z -ℤ p x ≡ p y = omega (ints, plus (p x) (p y), minus (p z) (p x)) in (

@@ -1,5 +1,5 @@
 -- A sweep is one list of steps, so it has the laws of steps: each primitive and each clause gives its own part of the list.
-use mathlib.Core.Path.{_≡_, refl, ap}
+use mathlib.Core.Path.{_≡_}
 use mathlib.Core.List.{List, map}
 use Prim.Native.Nat.{ℕ, _*_, _<_}
 use native.Mathlib.Decide.{decLt}
@@ -12,36 +12,19 @@ use Rattle.whole.specs.Ranges.{Point}
 use Rattle.problem.specs.Problem.{Box, lowAt, highAt, Inside, Holds, True}
 use Rattle.problem.specs.declared.Primitive.{Primitive}
 use Rattle.problem.specs.declared.Literal.{Literal}
-use Rattle.narrow.specs.Cuts.{Result, gone, moved, still, steps}
+use Rattle.narrow.specs.Cuts.{Swept, empty, changed, unchanged, steps}
 use Rattle.narrow.specs.Narrowing.{clauseStep}
-use Rattle.narrow.specs.Sweep.{allSteps, sweepSteps, empty, changed, unchanged, comesTo, sweepOf}
-use Rattle.narrow.proofs.Boxes.{low-none, high-none, Single, Smaller}
+use Rattle.narrow.specs.Sweep.{allSteps, sweepSteps, sweepOf}
+use Rattle.narrow.specs.Parts.{Part, Smaller}
+use Rattle.narrow.specs.Named.{SitedAll, PlacedAll}
+use Rattle.narrow.proofs.Boxes.{low-none, high-none, Single}
 use Rattle.narrow.proofs.Constraints.{primitives-sound, clauses-sound, primitives-point, clauses-point}
 use Rattle.narrow.proofs.Cuts.{Keeps}
 use Rattle.narrow.proofs.Lists.{both, left, right}
-use Rattle.narrow.proofs.Sites.{SitedAll, PlacedAll}
-use Rattle.narrow.proofs.Steps.{QuietAt, AllQuiet, still-quiet, quiet-still, moved-within, moved-less, Sound, steps-keep}
-
--- ---- what a sweep comes to, as steps
-comes-changed : (r : Result) {b : Box} → comesTo r ≡ changed b → r ≡ moved b
-comes-changed gone e = let z : _≡_ {A = ℕ} 0 1 = cc in absurd (omega arith)
-comes-changed (moved c) e = cc
-comes-changed (still c) e = let z : _≡_ {A = ℕ} 0 1 = cc in absurd (omega arith)
-
-comes-unchanged : (r : Result) → comesTo r ≡ unchanged → (b : Box) × (r ≡ still b)
-comes-unchanged gone e = let z : _≡_ {A = ℕ} 0 1 = cc in absurd (omega arith)
-comes-unchanged (moved c) e = let z : _≡_ {A = ℕ} 0 1 = cc in absurd (omega arith)
-comes-unchanged (still c) e = (c, refl)
+use Rattle.narrow.proofs.Steps.{QuietAt, AllQuiet, unchanged-same, unchanged-quiet, changed-within, changed-less, LosesNone, steps-keep}
 
 -- ---- a box of n ranges reads as 0 beyond them
 module _ (n : ℕ) (b : Box) (long : length b ≡ 2 * n) where
-  filled-all : ((q : ℕ) → q < n → lowAt b q ≤ℤ highAt b q) → (q : ℕ) → lowAt b q ≤ℤ highAt b q
-  filled-all f q = go (decLt q n)
-    where
-      go : Dec (q < n) → lowAt b q ≤ℤ highAt b q
-      go (yes h) = f q h
-      go (no h) = omega (ints, low-none b q (omega arith), high-none b q (omega arith))
-
   single-all : ((q : ℕ) → q < n → lowAt b q ≡ highAt b q) → Single b
   single-all f q = go (decLt q n)
     where
@@ -50,55 +33,50 @@ module _ (n : ℕ) (b : Box) (long : length b ≡ 2 * n) where
       go (no h) = omega (ints, low-none b q (omega arith), high-none b q (omega arith))
 
 -- ---- a changed box
--- b has n ranges, none of them empty, each inside that of a
-pub record Narrower (n : ℕ) (a b : Box) : Type 0 where
-  pub long : length b ≡ 2 * n
-  pub low : (q : ℕ) → q < n → lowAt a q ≤ℤ lowAt b q
-  pub filled : (q : ℕ) → q < n → lowAt b q ≤ℤ highAt b q
-  pub high : (q : ℕ) → q < n → highAt b q ≤ℤ highAt a q
-
 module _ (n : ℕ) (ps : List Primitive) (cs : List (List Literal)) (b : Box) (long : length b ≡ 2 * n) where
-  pub sweep-shrinks : ((q : ℕ) → q < n → lowAt b q ≤ℤ highAt b q) → (b′ : Box) → sweepOf ps cs b ≡ changed b′ → Narrower n b b′
+  pub sweep-shrinks : ((q : ℕ) → q < n → lowAt b q ≤ℤ highAt b q) → (b′ : Box) → sweepOf ps cs b ≡ changed b′ → Part n b b′
   unfolding sweepOf
   sweep-shrinks f b′ e =
-      let w = moved-within (sweepSteps ps cs) b b′ (comes-changed (steps (still b) (sweepSteps ps cs)) e) in
+      let w = changed-within (sweepSteps ps cs) b b′ e in
       record { long = omega (arith, w .long); low = λ q h. w .low q; filled = λ q h. w .filled q (f q h); high = λ q h. w .high q }
 
   pub sweep-smaller : (b′ : Box) → sweepOf ps cs b ≡ changed b′ → Smaller n b b′
   unfolding sweepOf
-  sweep-smaller b′ e = moved-less (sweepSteps ps cs) b b′ (comes-changed (steps (still b) (sweepSteps ps cs)) e) n long
+  sweep-smaller b′ e = changed-less (sweepSteps ps cs) b b′ e n long
 
-  -- ---- unchanged exactly if every step is quiet
-  pub quiet-unchanged : ((q : ℕ) → q < n → lowAt b q ≤ℤ highAt b q) → AllQuiet b (sweepSteps ps cs) → sweepOf ps cs b ≡ unchanged
+-- ---- unchanged only if every step is quiet
+module _ (ps : List Primitive) (cs : List (List Literal)) (b b′ : Box) (e : sweepOf ps cs b ≡ unchanged b′) where
+  pub sweep-quiet : AllQuiet b (sweepSteps ps cs)
   unfolding sweepOf
-  quiet-unchanged f h = ap comesTo (quiet-still (sweepSteps ps cs) b (filled-all n b long f) h)
+  sweep-quiet = unchanged-quiet (sweepSteps ps cs) b b′ e
 
-pub unchanged-quiet : (ps : List Primitive) (cs : List (List Literal)) (b : Box) → sweepOf ps cs b ≡ unchanged → AllQuiet b (sweepSteps ps cs)
-unfolding sweepOf
-unchanged-quiet ps cs b e = let s = comes-unchanged (steps (still b) (sweepSteps ps cs)) e in still-quiet (sweepSteps ps cs) b (s .0) (s .1)
+  -- a box in which nothing changed is as it was
+  pub sweep-same : b′ ≡ b
+  unfolding sweepOf
+  sweep-same = unchanged-same (sweepSteps ps cs) b b′ e
 
 -- ---- an unchanged box of one value each: that point meets every primitive and every clause
-pub sweep-settled : (n : ℕ) (ps : List Primitive) (cs : List (List Literal)) (b : Box) → length b ≡ 2 * n → ((q : ℕ) → q < n → lowAt b q ≡ highAt b q) → sweepOf ps cs b ≡ unchanged
+pub sweep-settled : (n : ℕ) (ps : List Primitive) (cs : List (List Literal)) (b b′ : Box) → length b ≡ 2 * n → ((q : ℕ) → q < n → lowAt b q ≡ highAt b q) → sweepOf ps cs b ≡ unchanged b′
     → AllOf (Holds (lowAt b)) ps × AllOf (OneOf (True (lowAt b))) cs
-sweep-settled n ps cs b long f e =
+sweep-settled n ps cs b b′ long f e =
     let o = single-all n b long f in
-    let h = unchanged-quiet ps cs b e in
+    let h = sweep-quiet ps cs b b′ e in
     (primitives-point b o ps (left (QuietAt b) (allSteps ps) (map clauseStep cs) h), clauses-point b o cs (right (QuietAt b) (allSteps ps) (map clauseStep cs) h))
 
 -- ---- a point of the box that meets every primitive and every clause is kept
 module _ (n : ℕ) (p : Point) (ps : List Primitive) (cs : List (List Literal)) (sited : SitedAll n ps) (placed : PlacedAll n cs) (b : Box) (i : Inside n p b) (ms : AllOf (Holds p) ps) (ns : AllOf (OneOf (True p)) cs) where
-  kept : Keeps n p (steps (still b) (sweepSteps ps cs))
-  kept = steps-keep n p (sweepSteps ps cs) (both (Sound n p) (allSteps ps) (map clauseStep cs) (primitives-sound n p ps sited ms) (clauses-sound n p cs placed ns)) (still b) i
+  kept : Keeps n p (steps (unchanged b) (sweepSteps ps cs))
+  kept = steps-keep n p (sweepSteps ps cs) (both (LosesNone n p) (allSteps ps) (map clauseStep cs) (primitives-sound n p ps sited ms) (clauses-sound n p cs placed ns)) (unchanged b) i
 
   pub sweep-some : sweepOf ps cs b ≡ empty → ⊥
   unfolding sweepOf
-  sweep-some e = go (steps (still b) (sweepSteps ps cs)) kept e
+  sweep-some e = go (steps (unchanged b) (sweepSteps ps cs)) kept e
     where
-      go : (r : Result) → Keeps n p r → comesTo r ≡ empty → ⊥
-      go gone k e = k
-      go (moved c) k e = let z : _≡_ {A = ℕ} 0 1 = cc in omega arith
-      go (still c) k e = let z : _≡_ {A = ℕ} 0 1 = cc in omega arith
+      go : (r : Swept) → Keeps n p r → r ≡ empty → ⊥
+      go empty k e = k
+      go (changed c) k e = let z : _≡_ {A = ℕ} 0 1 = cc in omega arith
+      go (unchanged c) k e = let z : _≡_ {A = ℕ} 0 1 = cc in omega arith
 
   pub sweep-inside : (b′ : Box) → sweepOf ps cs b ≡ changed b′ → Inside n p b′
   unfolding sweepOf
-  sweep-inside b′ e = let f = comes-changed (steps (still b) (sweepSteps ps cs)) e in rw f at kept
+  sweep-inside b′ e = rw e at kept

@@ -18,19 +18,20 @@ use Rattle.problem.specs.declared.Literal.{Literal}
 use Rattle.problem.proofs.Tests.{by-bool}
 use Rattle.problem.proofs.Lists.{primitives-at, primitives-end, literals-take, literals-drop}
 use Rattle.problem.proofs.Placing.{PrimitivePlaced, primitive-placed, LiteralPlaced, literal-placed, literals-clear, literals-clear-to, listed, Left, left-start, left-room, left-on, clauses-at}
-use Rattle.narrow.specs.Cuts.{Result, Step, steps}
+use Rattle.narrow.specs.Cuts.{Swept, Step, steps}
 use Rattle.narrow.specs.Narrowing.{primitiveSteps, clauseStep}
-use Rattle.narrow.specs.Sweep.{allSteps, sweepSteps, comesTo, sweepOf}
-use Rattle.narrow.specs.inner.Done.{Has, Sited, Fine, resultAs, Done, sweptAs, Sweeps}
-use Rattle.narrow.specs.inner.Clause.{quantityOf, Lits}
+use Rattle.narrow.specs.Named.{quantityOf}
+use Rattle.narrow.specs.Sweep.{allSteps, sweepSteps, sweepOf}
+use Rattle.narrow.specs.inner.Done.{Has, Sited, Fine, sweptAs, Done, Sweeps}
+use Rattle.narrow.specs.inner.Clause.{Lits}
 use Rattle.narrow.specs.declared.Status.{Status}
-use Rattle.narrow.specs.declared.Status.the-variants.{Empty, Changed, Same}
+use Rattle.narrow.specs.declared.Status.the-variants.{Empty, Same}
 use Rattle.narrow.proofs.Cutting.{done-then, done-ended}
-use Rattle.narrow.proofs.Steps.{steps-append, steps-gone, still-same}
+use Rattle.narrow.proofs.Steps.{steps-append, steps-empty}
 
 -- ---- some of the steps done
 pub record Going (all rest : List Step) (r₀ : Status) (b₀ : Box) (r : Status) (b : Box) : Type 0 where
-  pub says : steps (resultAs r b) rest ≡ steps (resultAs r₀ b₀) all
+  pub says : steps (sweptAs r b) rest ≡ steps (sweptAs r₀ b₀) all
   pub fine : Fine b
   pub long : length b ≡ length b₀
 
@@ -40,17 +41,17 @@ going-start f = record { says = refl; fine = f; long = refl }
 module _ {all rest : List Step} {r₀ r : Status} {b₀ b : Box} (g : Going all rest r₀ b₀ r b) where
   pub going-on : {ss ts : List Step} {r′ : Status} {b′ : Box} → rest ≡ ss ++ ts → Done ss r b r′ b′ → length b′ ≡ length b → Going all ts r₀ b₀ r′ b′
   going-on {ss} {ts} {r′} {b′} e d l = record {
-    says = ap (λ (x : Result). steps x ts) (d .says) ∙ sym (steps-append (resultAs r b) ss ts) ∙ ap (steps (resultAs r b)) (sym e) ∙ g .says;
+    says = ap (λ (x : Swept). steps x ts) (d .says) ∙ sym (steps-append (sweptAs r b) ss ts) ∙ ap (steps (sweptAs r b)) (sym e) ∙ g .says;
     fine = d .fine;
     long = l ∙ g .long;
   }
 
   -- an empty range ends them
-  pub going-gone : r ≡ Empty → Done all r₀ b₀ Empty b
-  going-gone e = record { says = sym (steps-gone rest) ∙ ap (λ (x : Status). steps (resultAs x b) rest) (sym e) ∙ g .says; fine = g .fine }
+  pub going-empty : r ≡ Empty → Done all r₀ b₀ Empty b
+  going-empty e = record { says = sym (steps-empty rest) ∙ ap (λ (x : Status). steps (sweptAs x b) rest) (sym e) ∙ g .says; fine = g .fine }
 
   pub going-end : rest ≡ [] → Done all r₀ b₀ r b
-  going-end e = record { says = ap (steps (resultAs r b)) (sym e) ∙ g .says; fine = g .fine }
+  going-end e = record { says = ap (steps (sweptAs r b)) (sym e) ∙ g .says; fine = g .fine }
 
 -- ---- primitives
 -- the steps of the primitives from place i on
@@ -145,23 +146,14 @@ module _ {n : ℕ} {ns ls : List ℤ} {i from : ℕ} (a : Ahead n ns ls i from) 
       placed j v = literal-placed n lent (subst (λ (x : List ℤ). badLiterals n x ≡ false) (sym lent-is) (literals-clear-to n m (drop from ls) (a .clear))) j (omega arith)
 
 -- ---- a whole sweep
-swept-is : (r : Status) (b : Box) → sweptAs r b ≡ comesTo (resultAs r b)
-swept-is Empty b = refl
-swept-is Changed b = refl
-swept-is Same b = refl
-
 sweep-done : {ps : List Primitive} {cs : List (List Literal)} {b₀ b : Box} {r : Status} → Done (sweepSteps ps cs) Same b₀ r b → Sweeps ps cs b₀ r b
 unfolding sweepOf
-sweep-done {ps} {cs} {b₀} {b} {r} d = record {
-  says = swept-is r b ∙ ap comesTo (d .says);
-  kept = λ e. still-same (sweepSteps ps cs) b₀ b (sym (d .says) ∙ ap (λ (x : Status). resultAs x b) e);
-  fine = d .fine;
-}
+sweep-done d = record { says = d .says; fine = d .fine }
 
 -- the primitives left an empty range, or the clauses followed
 module _ {ps : List Primitive} {cs : List (List Literal)} {b₀ b : Box} {r : Status} (d : Done (allSteps ps) Same b₀ r b) where
-  pub sweep-gone : r ≡ Empty → Sweeps ps cs b₀ Empty b
-  sweep-gone e = sweep-done (done-ended d e (map clauseStep cs))
+  pub sweep-empty : r ≡ Empty → Sweeps ps cs b₀ Empty b
+  sweep-empty e = sweep-done (done-ended d e (map clauseStep cs))
 
   pub sweep-both : {r′ : Status} {b′ : Box} → Done (map clauseStep cs) r b r′ b′ → Sweeps ps cs b₀ r′ b′
   sweep-both f = sweep-done (done-then d f)

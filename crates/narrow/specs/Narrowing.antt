@@ -1,8 +1,9 @@
--- The cuts of each constraint, in order: document 01, "Narrowing one constraint".
+-- The cuts of each constraint, in order: document 01, "Narrowing one constraint". Quantities are z, x, y, and Z, X, Y their ranges; a step names
+-- the quantity that it cuts, then those that it is cut by.
 use mathlib.Core.Bool.{Bool, cond}
 use mathlib.Core.List.{List, [], _∷_}
 use Prim.Native.Nat.{ℕ}
-use lib.IntN.{ℤ, pos, negℤ}
+use lib.IntN.{pos, negℤ}
 use lib.Signed.{ltZ, leZ}
 use Rattle.whole.specs.Numbers.{min4, max4, floorQ, ceilQ, rootDown, rootUp}
 use Rattle.whole.specs.Ranges.{range, holdsZero, sumSpan, differenceSpan, productSpan, squareSpan}
@@ -30,14 +31,14 @@ productStep z x y b = to z (productSpan (rangeAt b x) (rangeAt b y))
 
 -- the least and greatest of the four exact quotients of z's ends by y's ends, rounded up to the lower end and down to the upper end
 abbrev pub quotientSpan : Range → Range → Range
-quotientSpan z y =
+quotientSpan Z Y =
     range
-    (min4 (ceilQ (z .low) (y .low)) (ceilQ (z .low) (y .high)) (ceilQ (z .high) (y .low)) (ceilQ (z .high) (y .high)))
-    (max4 (floorQ (z .low) (y .low)) (floorQ (z .low) (y .high)) (floorQ (z .high) (y .low)) (floorQ (z .high) (y .high)))
+    (min4 (ceilQ (Z .low) (Y .low)) (ceilQ (Z .low) (Y .high)) (ceilQ (Z .high) (Y .low)) (ceilQ (Z .high) (Y .high)))
+    (max4 (floorQ (Z .low) (Y .low)) (floorQ (Z .low) (Y .high)) (floorQ (Z .high) (Y .low)) (floorQ (Z .high) (Y .high)))
 
 -- if y's range holds no 0, cut x to these; otherwise x stays
 abbrev pub quotientCut : ℕ → Range → Range → Cut
-quotientCut x z y = cond (holdsZero y) stay (to x (quotientSpan z y))
+quotientCut x Z Y = cond (holdsZero Y) stay (to x (quotientSpan Z Y))
 
 abbrev pub quotientStep : ℕ → ℕ → ℕ → Step
 quotientStep x z y b = quotientCut x (rangeAt b z) (rangeAt b y)
@@ -52,21 +53,21 @@ squareStep z x b = to z (squareSpan (rangeAt b x))
 
 -- cut x to [-r, r], r the whole root of zh rounded down
 abbrev pub rootSpan : Range → Range
-rootSpan z = range (negℤ (rootDown (z .high))) (rootDown (z .high))
+rootSpan Z = range (negℤ (rootDown (Z .high))) (rootDown (Z .high))
 
 abbrev pub rootStep : ℕ → ℕ → Step
 rootStep x z b = to x (rootSpan (rangeAt b z))
 
 -- with s the root of zl rounded up: if xl >= 0 raise xl to at least s
 abbrev pub raiseCut : ℕ → Range → Range → Cut
-raiseCut q x z = cond (leZ (pos 0) (x .low)) (to q (range (rootUp (z .low)) (x .high))) stay
+raiseCut x X Z = cond (leZ (pos 0) (X .low)) (to x (range (rootUp (Z .low)) (X .high))) stay
 
 abbrev pub raiseStep : ℕ → ℕ → Step
 raiseStep x z b = raiseCut x (rangeAt b x) (rangeAt b z)
 
 -- and if xh <= 0 lower xh to at most -s
 abbrev pub lowerCut : ℕ → Range → Range → Cut
-lowerCut q x z = cond (leZ (x .high) (pos 0)) (to q (range (x .low) (negℤ (rootUp (z .low))))) stay
+lowerCut x X Z = cond (leZ (X .high) (pos 0)) (to x (range (X .low) (negℤ (rootUp (Z .low))))) stay
 
 abbrev pub lowerStep : ℕ → ℕ → Step
 lowerStep x z b = lowerCut x (rangeAt b x) (rangeAt b z)

@@ -4,4 +4,4 @@ pub mod Judging
 pub mod Scanning
 pub mod Reading
 pub mod Placing
-pub mod Sound
+pub mod Unmet

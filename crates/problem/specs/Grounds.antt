@@ -1,7 +1,7 @@
 -- Grounds 1 to 5 of document 01's "What a solve gives back", over lists of any numbers.
-use mathlib.Core.Bool.{Bool, true, false, not, cond, _||_}
+use mathlib.Core.Bool.{Bool, false, not, cond, _||_}
 use mathlib.Core.List.{List, [], _∷_}
-use Prim.Native.Nat.{ℕ, _*_, _/_, _%_}
+use Prim.Native.Nat.{ℕ, _*_, _%_, _<_}
 use lib.Dec.{eqb, ltb}
 use lib.ListN.{length}
 use lib.IntN.{ℤ, pos, _+ℤ_, _*ℤ_}
@@ -104,3 +104,8 @@ refusalNumber Primitives = 4
 refusalNumber Literals = 5
 refusalNumber Budget = 6
 refusalNumber Room = 7
+
+-- a ground is met, and none with a lower number
+pub record FirstMet (Met : ℕ → Type 0) (g : ℕ) : Type 0 where
+  pub met : Met g
+  pub none-lower : (h : ℕ) → h < g → Met h → ⊥

@@ -1,6 +1,6 @@
 -- A problem as lists of numbers, as the calls take and give them. The reading is total; it is document 01's problem only where none of
 -- grounds 1 to 5 is met (Grounds.antt): what any other number reads as does not matter.
-use mathlib.Core.Bool.{Bool, cond}
+use mathlib.Core.Bool.{cond}
 use mathlib.Core.List.{List, [], _∷_}
 use Prim.Native.Nat.{ℕ}
 use lib.ListN.{take, drop}

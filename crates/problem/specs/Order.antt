@@ -1,7 +1,6 @@
 -- Points compared quantity by quantity, in order.
 use mathlib.Core.Path.{_≡_}
 use Prim.Native.Nat.{ℕ, _<_}
-use lib.IntN.{ℤ}
 use lib.Signed.{_<ℤ_}
 use Rattle.whole.specs.Ranges.{Point}
 

@@ -11,10 +11,10 @@ use lib.IntN.{ℤ}
 use lib.Signed.{_≤ℤ_, _<ℤ_, ltZ}
 use Rattle.whole.proofs.Kit.{ints}
 use Rattle.problem.specs.Problem.{Box, lowAt, highAt}
+use Rattle.narrow.specs.Parts.{Part}
 use Rattle.search.specs.Search.{openFrom, lowest}
 use Rattle.search.specs.Solve.{lows}
 use Rattle.search.specs.Demand2.{pointAt}
-use Rattle.search.specs.inner.Laws.{Part}
 use Rattle.search.specs.declared.Open.{Open}
 use Rattle.search.specs.declared.Open.the-variants.{At, Closed}
 

@@ -7,14 +7,14 @@ use native.Mathlib.Numerals.{add-one}
 use native.Mathlib.Omega.{arith}
 use lib.IntN.{ℤ, pos, _+ℤ_, _-ℤ_}
 use lib.Signed.{_≤ℤ_}
-use Rattle.whole.specs.Numbers.{P, N, leastPower}
+use Rattle.whole.specs.Numbers.{positivePart, negativePart, leastPower}
 use Rattle.whole.specs.Ranges.{range, values}
 use Rattle.whole.proofs.Kit.{ints, plus, minus, apart}
 use Rattle.whole.proofs.Powers.{power-mono, power-half}
 use Rattle.problem.specs.Problem.{Box, lowAt, highAt, rangeAt}
+use Rattle.narrow.specs.Parts.{Part}
 use Rattle.search.specs.Search.{middleAt, lowerPart, upperPart}
 use Rattle.search.specs.Depth.{depth}
-use Rattle.search.specs.inner.Laws.{Part}
 use Rattle.search.proofs.Splits.{Splits, lower-part, upper-part, lower-at, upper-at, halved}
 
 -- half of two values or more takes one off
@@ -22,7 +22,7 @@ fewer : (a m : ℕ) → 2 ≤ m → 2 * a ≤ m + 1 → leastPower a < leastPowe
 fewer a m two h = omega (arith, power-half a m two h)
 
 -- how many values a range has
-values-is : (l h : ℤ) → l ≤ℤ h → values (range l h) + (P l + N h) ≡ P h + N l + 1
+values-is : (l h : ℤ) → l ≤ℤ h → values (range l h) + (positivePart l + negativePart h) ≡ positivePart h + negativePart l + 1
 values-is l h le = omega (ints, minus h l, plus (h -ℤ l) (pos 1), apart (h -ℤ l +ℤ pos 1))
 
 -- ---- D, quantity by quantity
@@ -63,7 +63,7 @@ module _ {n : ℕ} {a b : Box} (f : Part n a b) where
       by (no ne) le on = let new = on (omega arith) in omega (arith, power-le k h)
 
 module _ {n : ℕ} {b : Box} {q : ℕ} (z : Splits n b q) where
-  all-values : values (rangeAt b q) + (P (lowAt b q) + N (highAt b q)) ≡ P (highAt b q) + N (lowAt b q) + 1
+  all-values : values (rangeAt b q) + (positivePart (lowAt b q) + negativePart (highAt b q)) ≡ positivePart (highAt b q) + negativePart (lowAt b q) + 1
   all-values = values-is (lowAt b q) (highAt b q) (z .self .filled q (z .less))
 
   two-values : 2 ≤ values (rangeAt b q)

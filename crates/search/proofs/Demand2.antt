@@ -9,10 +9,11 @@ use lib.ListN.{length}
 use Rattle.whole.specs.Ranges.{Point}
 use Rattle.problem.specs.Problem.{Box, lowAt, Inside}
 use Rattle.problem.specs.Order.{Before}
-use Rattle.narrow.specs.Sweep.{Swept, empty, changed, unchanged}
+use Rattle.narrow.specs.Cuts.{Swept, empty, changed, unchanged}
+use Rattle.narrow.specs.Parts.{Part}
 use Rattle.search.specs.Search.{lowerPart, upperPart, Outcome, stopped, found, none, run}
 use Rattle.search.specs.Depth.{depth}
-use Rattle.search.specs.inner.Laws.{Part, Lawful, Sound, Ordered}
+use Rattle.search.specs.inner.Laws.{Lawful, Lossless, Ordered}
 use Rattle.search.specs.declared.Open.{Open}
 use Rattle.search.specs.declared.Open.the-variants.{At}
 use Rattle.search.proofs.Splits.{Splits, part-self, part-trans, in-part, lows-in, lower-part, upper-part, halves-all, halves-order}
@@ -60,17 +61,17 @@ module _ {sweep : Box → Swept} {choose : Box → Open} {n lead : ℕ} {start :
   cuts : {c b : Box} → Part n start c → sweep c ≡ changed b → Part n c b
   cuts {c} f e = rw e at (law .shrinks c f)
 
-  pub splits : {c : Box} (q : ℕ) → Part n start c → sweep c ≡ unchanged → choose c ≡ At q → Splits n c q
-  splits {c} q f e g = record { self = part-self f; less = omega (arith, law .leads c q f e g, law .leading); wide = law .wide c q f e g }
+  pub splits : {c c′ : Box} (q : ℕ) → Part n start c → sweep c ≡ unchanged c′ → choose c ≡ At q → Splits n c q
+  splits {c} {c′} q f e g = record { self = part-self f; less = omega (arith, law .leads c c′ q f e g, law .leading); wide = law .wide c c′ q f e g }
 
   pub stack-kept : Kept sweep choose (Stack n lead start)
   stack-kept =
       record {
         taken = λ c ws s e. s .2;
         cut = λ c b ws s e. let f = cuts (s .0) e in (part-trans (s .0) f, omega (arith, s .1, depth-le f lead (law .leading)), s .2);
-        split = λ c q ws s e g.
+        split = λ c c′ q ws s e g.
             let z = splits q (s .0) e g in
-            let q< = law .leads c q (s .0) e g in (
+            let q< = law .leads c c′ q (s .0) e g in (
               part-trans (s .0) (lower-part z),
               omega (arith, s .1, lower-deep z lead (law .leading) q<),
               (part-trans (s .0) (upper-part z), omega (arith, s .1, upper-deep z lead (law .leading) q<), s .2),
@@ -81,7 +82,7 @@ module _ {sweep : Box → Swept} {choose : Box → Open} {n lead : ℕ} {start :
   module _ (J : List Box → Type 0)
       (taken : (c : Box) (ws : List Box) → Part n start c → sweep c ≡ empty → J (c ∷ ws) → J ws)
       (cut : (c b : Box) (ws : List Box) → Part n start c → sweep c ≡ changed b → J (c ∷ ws) → J (b ∷ ws))
-      (split : (c : Box) (q : ℕ) (ws : List Box) → Part n start c → sweep c ≡ unchanged → choose c ≡ At q → J (c ∷ ws) → J (lowerPart c q ∷ upperPart c q ∷ ws)) where
+      (split : (c c′ : Box) (q : ℕ) (ws : List Box) → Part n start c → sweep c ≡ unchanged c′ → choose c ≡ At q → J (c ∷ ws) → J (lowerPart c q ∷ upperPart c q ∷ ws)) where
     on-stack : (k : ℕ) (c : Box) (ws : List Box) → Stack n lead start (c ∷ ws) → J (c ∷ ws) → J (boxesOf (run sweep choose k c ws))
     on-stack k c ws s j = kept sweep choose (λ bs. Stack n lead start bs × J bs) both k c ws (s, j) .1
       where
@@ -90,7 +91,7 @@ module _ {sweep : Box → Swept} {choose : Box → Open} {n lead : ℕ} {start :
             record {
               taken = λ c ws s e. (stack-kept .taken c ws (s .0) e, taken c ws (s .0 .0) e (s .1));
               cut = λ c b ws s e. (stack-kept .cut c b ws (s .0) e, cut c b ws (s .0 .0) e (s .1));
-              split = λ c q ws s e g. (stack-kept .split c q ws (s .0) e g, split c q ws (s .0 .0) e g (s .1));
+              split = λ c c′ q ws s e g. (stack-kept .split c c′ q ws (s .0) e g, split c c′ q ws (s .0 .0) e g (s .1));
             }
 
   -- no point is gained
@@ -99,7 +100,7 @@ module _ {sweep : Box → Swept} {choose : Box → Open} {n lead : ℕ} {start :
       on-stack (λ bs. Among n p bs → Among n p (c₀ ∷ ws₀))
       (λ c ws f e on h. on (inr h))
       (λ c b ws f e on. ⊎-elim (λ i. on (inl (in-part (cuts f e) i))) (λ h. on (inr h)))
-      (λ c q ws f e g on. let z = splits q f e g in ⊎-elim (λ i. on (inl (in-part (lower-part z) i))) (⊎-elim (λ j. on (inl (in-part (upper-part z) j))) (λ h. on (inr h))))
+      (λ c c′ q ws f e g on. let z = splits q f e g in ⊎-elim (λ i. on (inl (in-part (lower-part z) i))) (⊎-elim (λ j. on (inl (in-part (upper-part z) j))) (λ h. on (inr h))))
       k c₀ ws₀ s (λ h. h)
 
   module _ (fine : Part n start start) where
@@ -111,12 +112,12 @@ module _ {sweep : Box → Swept} {choose : Box → Open} {n lead : ℕ} {start :
     stack k = kept sweep choose (Stack n lead start) stack-kept k start [] begin
 
     -- every satisfying point of the starting box is in the box in hand or in one that waits; at none there is no box left
-    pub cover : {Sat : Point → Type 0} → Sound sweep n start Sat → (k : ℕ) (p : Point) → Inside n p start → Sat p → Among n p (boxesOf (run sweep choose k start []))
+    pub cover : {Sat : Point → Type 0} → Lossless sweep n start Sat → (k : ℕ) (p : Point) → Inside n p start → Sat p → Among n p (boxesOf (run sweep choose k start []))
     cover {Sat} sound k p i sat =
         on-stack (λ bs. Among n p bs)
         (λ c ws f e. ⊎-elim (λ i. absurd (rw e at (sound .keeps c f p i sat))) (λ h. h))
         (λ c b ws f e. ⊎-elim (λ i. inl (rw e at (sound .keeps c f p i sat))) inr)
-        (λ c q ws f e g. ⊎-elim (λ i. ⊎-elim inl (λ j. inr (inl j)) (halves-all (splits q f e g) p i)) (λ h. inr (inr h)))
+        (λ c c′ q ws f e g. ⊎-elim (λ i. ⊎-elim inl (λ j. inr (inl j)) (halves-all (splits q f e g) p i)) (λ h. inr (inr h)))
         k start [] begin (inl i)
 
     module _ {Sat : Point → Type 0} (order : Ordered sweep choose n start Sat) where
@@ -126,9 +127,9 @@ module _ {sweep : Box → Swept} {choose : Box → Open} {n lead : ℕ} {start :
           on-stack (InOrder n)
           (λ c ws f e o. o .1)
           (λ c b ws f e o. ((λ p p′ i. o .0 p p′ (in-part (cuts f e) i)), o .1))
-          (λ c q ws f e g o.
+          (λ c c′ q ws f e g o.
           let z = splits q f e g in (
-            (λ p p′ i. ⊎-elim (halves-order z (order .first c q f e g) p p′ i) (o .0 p p′ (in-part (lower-part z) i))),
+            (λ p p′ i. ⊎-elim (halves-order z (order .first c c′ q f e g) p p′ i) (o .0 p p′ (in-part (lower-part z) i))),
             ((λ p p′ i. o .0 p p′ (in-part (upper-part z) i)), o .1),
           ))
           k start [] begin ((λ p p′ i h. absurd h), tt)
@@ -141,7 +142,7 @@ module _ {sweep : Box → Swept} {choose : Box → Open} {n lead : ℕ} {start :
           let on = rw (sym (resume sweep choose start [] k m e) ∙ e′) at (inside m c ws s (lowAt c′)) in
           floor ws (s .0) (rw e at (in-order k)) (lowAt c′) (on (inl (lows-in (t .0))))
 
-      module _ (sound : Sound sweep n start Sat) where
+      module _ (sound : Lossless sweep n start Sat) where
         pub demand2 : (budget : ℕ) → Means n start Sat (run sweep choose budget start [])
         demand2 budget = by (run sweep choose budget start []) (stack budget) (in-order budget) (cover sound budget) (quiet sweep choose budget start [])
           where
@@ -150,7 +151,7 @@ module _ {sweep : Box → Swept} {choose : Box → Open} {n lead : ℕ} {start :
             by (found c ws left) s o held z =
                 record {
                   inside = in-part (s .0) (lows-in (s .0));
-                  satisfies = order .settled c (s .0) (z .0) (z .1);
+                  satisfies = order .settled c (z .0) (s .0) (z .1) (z .2);
                   first = λ p i sat. floor ws (s .0) o p (held p i sat);
                 }
             by (stopped c ws) s o held z = λ p i sat. floor ws (s .0) o p (held p i sat)

@@ -3,7 +3,7 @@ use mathlib.Core.Path.{_≡_, sym, _∙_}
 use mathlib.Core.List.{List, [], _∷_}
 use Prim.Native.Nat.{ℕ, suc}
 use Rattle.problem.specs.Problem.{Box}
-use Rattle.narrow.specs.Sweep.{Swept, empty, changed, unchanged}
+use Rattle.narrow.specs.Cuts.{Swept, empty, changed, unchanged}
 use Rattle.search.specs.Search.{lowerPart, upperPart, Outcome, stopped, found, none, run}
 use Rattle.search.specs.inner.Laws.{Lawful}
 use Rattle.search.specs.declared.Open.{Open}
@@ -22,14 +22,14 @@ module _ {sweep : Box → Swept} {choose : Box → Open} {n lead : ℕ} {start :
   pub go-taken : {w : Box} {ws : List Box} → Going sweep choose n lead start o (suc k) c (w ∷ ws) → sweep c ≡ empty → Going sweep choose n lead start o k w ws
   go-taken {w} {ws} g e = record { stack = stack-kept law .taken c (w ∷ ws) (g .stack) e; same = sym (run-go sweep choose k c (w ∷ ws) (step-taken sweep choose e)) ∙ g .same }
 
-  pub go-split : {ws : List Box} (q : ℕ) → Going sweep choose n lead start o (suc k) c ws → sweep c ≡ unchanged → choose c ≡ At q → Going sweep choose n lead start o k (lowerPart c q) (upperPart c q ∷ ws)
-  go-split {ws} q g e f = record { stack = stack-kept law .split c q ws (g .stack) e f; same = sym (run-go sweep choose k c ws (step-split sweep choose e f)) ∙ g .same }
+  pub go-split : {c′ : Box} {ws : List Box} (q : ℕ) → Going sweep choose n lead start o (suc k) c ws → sweep c ≡ unchanged c′ → choose c ≡ At q → Going sweep choose n lead start o k (lowerPart c q) (upperPart c q ∷ ws)
+  go-split {c′} {ws} q g e f = record { stack = stack-kept law .split c c′ q ws (g .stack) e f; same = sym (run-go sweep choose k c ws (step-split sweep choose e f)) ∙ g .same }
 
   pub end-none : Going sweep choose n lead start o (suc k) c [] → sweep c ≡ empty → o ≡ none k
   end-none g e = sym (g .same) ∙ run-out sweep choose k c [] (step-out sweep choose e)
 
-  pub end-found : {ws : List Box} → Going sweep choose n lead start o (suc k) c ws → sweep c ≡ unchanged → choose c ≡ Closed → o ≡ found c ws k
-  end-found {ws} g e f = sym (g .same) ∙ run-end sweep choose k c ws (step-end sweep choose ws e f)
+  pub end-found : {c′ : Box} {ws : List Box} → Going sweep choose n lead start o (suc k) c ws → sweep c ≡ unchanged c′ → choose c ≡ Closed → o ≡ found c ws k
+  end-found {c′} {ws} g e f = sym (g .same) ∙ run-end sweep choose k c ws (step-end sweep choose ws e f)
 
 pub end-stopped : {sweep : Box → Swept} {choose : Box → Open} {n lead : ℕ} {start : Box} {o : Outcome} {c : Box} {ws : List Box} → Going sweep choose n lead start o 0 c ws → o ≡ stopped c ws
 unfolding run

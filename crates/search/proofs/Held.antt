@@ -11,10 +11,11 @@ use lib.Seq.{take-take, take-at}
 use lib.IntN.{ℤ}
 use borrow.Rule.Slice.PartMut.{midOf, putMid, same-len-mid, mid-len, drop-put, put-same}
 use Rattle.problem.specs.Problem.{Box}
-use Rattle.narrow.specs.Sweep.{Swept, empty, changed, unchanged}
+use Rattle.narrow.specs.Cuts.{Swept, empty, changed, unchanged}
+use Rattle.narrow.specs.Parts.{Part}
 use Rattle.search.specs.Search.{lowerPart, upperPart, Outcome, stopped, found, none, run}
 use Rattle.search.specs.Depth.{depth}
-use Rattle.search.specs.inner.Laws.{Part, Lawful}
+use Rattle.search.specs.inner.Laws.{Lawful}
 use Rattle.search.specs.declared.Open.{Open}
 use Rattle.search.specs.declared.Open.the-variants.{At, Closed}
 use Rattle.search.proofs.Splits.{Splits}
@@ -136,7 +137,7 @@ module _ {sweep : Box → Swept} {choose : Box → Open} {n w : ℕ} {start : Bo
       same-here e = ap (midOf (s * w) (s * w + w - s * w)) (ap (putMid (s * w) (s * w + w - s * w) l) e ∙ put-same (s * w) (s * w + w - s * w) l)
 
     -- ---- nothing changed, so that the choice decides
-    module _ (sw : sweep (midOf (s * w) (s * w + w - s * w) l) ≡ unchanged) where
+    module _ {c′ : Box} (sw : sweep (midOf (s * w) (s * w + w - s * w) l) ≡ unchanged c′) where
       pub found-is : Closed ≡ choose (midOf (s * w) (s * w + w - s * w) l) → o ≡ found (midOf (s * w) (s * w + w - s * w) l) (stackOf w s l) j
       found-is e = end-found (f .law) hand sw (sym e)
 

@@ -20,12 +20,13 @@ use Rattle.problem.specs.declared.Literal.{Literal}
 use Rattle.problem.specs.declared.Literal.the-variants.{AtMost, AtLeast}
 use Rattle.problem.proofs.Placing.{present}
 use Rattle.problem.proofs.Tests.{or-first, or-second}
-use Rattle.narrow.specs.Sweep.{Swept, empty, changed, unchanged, sweepOf}
-use Rattle.narrow.specs.inner.Clause.{quantityOf}
-use Rattle.narrow.proofs.Sites.{SitedIn, SitedAll, PlacedIn, PlacedAll}
+use Rattle.narrow.specs.Cuts.{Swept, empty, changed, unchanged}
+use Rattle.narrow.specs.Sweep.{sweepOf}
+use Rattle.narrow.specs.Named.{quantityOf, SitedIn, SitedAll, PlacedIn, PlacedAll}
 use Rattle.narrow.proofs.SweepLaws.{sweep-shrinks, sweep-settled, sweep-some, sweep-inside}
+use Rattle.narrow.specs.Parts.{Part}
 use Rattle.search.specs.Search.{lowest}
-use Rattle.search.specs.inner.Laws.{Part, Shrinks, Stays, Lawful, Sound, Ordered}
+use Rattle.search.specs.inner.Laws.{Shrinks, Stays, Lawful, Lossless, Ordered}
 use Rattle.search.specs.inner.Ready.{Started}
 use Rattle.search.proofs.Splits.{part-self}
 use Rattle.search.proofs.Choice.{lowest-leads, lowest-wide, lowest-first, lowest-closed}
@@ -107,8 +108,8 @@ module _ (rs ps ns ls : List ℤ) (j : Judges rs ps ns ls) where
     where
       by : (s : Swept) → sweepOf prims clauses b ≡ s → Shrinks n b s
       by empty e = tt
-      by (changed c) e = let w = sweep-shrinks n prims clauses b (f .long) (f .filled) c e in record { long = w .long; low = w .low; filled = w .filled; high = w .high }
-      by unchanged e = tt
+      by (changed c) e = sweep-shrinks n prims clauses b (f .long) (f .filled) c e
+      by (unchanged c) e = tt
 
   keeps : (b : Box) → Part n rs b → (p : Point) → Inside n p b → Meets prims clauses p → Stays n p (sweepOf prims clauses b)
   keeps b f p i m = by (sweepOf prims clauses b) refl
@@ -122,23 +123,23 @@ module _ (rs ps ns ls : List ℤ) (j : Judges rs ps ns ls) where
       by : (s : Swept) → sweepOf prims clauses b ≡ s → Stays n p s
       by empty e = sweep-some n p prims clauses sites places b i (m .0) (m .1) e
       by (changed c) e = sweep-inside n p prims clauses sites places b i (m .0) (m .1) c e
-      by unchanged e = tt
+      by (unchanged c) e = tt
 
   pub sweep-lawful : Lawful (sweepOf (primitivesOf ps) (clausesOf ns (literalsOf ls))) (lowest (quantities rs)) (quantities rs) (quantities rs) rs
   sweep-lawful =
       record {
         shrinks = shrinks;
-        leads = λ b q f e g. lowest-leads (part-self f) q g;
-        wide = λ b q f e g. lowest-wide (part-self f) q g;
+        leads = λ b b′ q f e g. lowest-leads (part-self f) q g;
+        wide = λ b b′ q f e g. lowest-wide (part-self f) q g;
         leading = omega arith;
       }
 
-  pub sweep-sound : Sound (sweepOf (primitivesOf ps) (clausesOf ns (literalsOf ls))) (quantities rs) rs (Meets (primitivesOf ps) (clausesOf ns (literalsOf ls)))
+  pub sweep-sound : Lossless (sweepOf (primitivesOf ps) (clausesOf ns (literalsOf ls))) (quantities rs) rs (Meets (primitivesOf ps) (clausesOf ns (literalsOf ls)))
   sweep-sound = record { keeps = keeps }
 
   pub sweep-ordered : Ordered (sweepOf (primitivesOf ps) (clausesOf ns (literalsOf ls))) (lowest (quantities rs)) (quantities rs) rs (Meets (primitivesOf ps) (clausesOf ns (literalsOf ls)))
   sweep-ordered =
       record {
-        first = λ b q f e g. lowest-first (part-self f) q g;
-        settled = λ b f e g. sweep-settled n prims clauses b (f .long) (lowest-closed (part-self f) g) e;
+        first = λ b b′ q f e g. lowest-first (part-self f) q g;
+        settled = λ b b′ f e g. sweep-settled n prims clauses b b′ (f .long) (lowest-closed (part-self f) g) e;
       }

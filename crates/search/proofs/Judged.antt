@@ -11,7 +11,7 @@ use lib.IntN.{ℤ, pos}
 use lib.Signed.{ltZ}
 use Rattle.problem.specs.Problem.{quantities}
 use Rattle.problem.specs.Grounds.{judgeOf}
-use Rattle.problem.proofs.Sound.{sound-unmet, unmet-placed, counted, range-good}
+use Rattle.problem.proofs.Unmet.{sound-unmet, unmet-placed, counted, range-good}
 use Rattle.problem.proofs.Tests.{or-first, or-second}
 use Rattle.problem.specs.inner.Placed.{Placed}
 use Rattle.problem.specs.declared.Refusal.{Refusal}

@@ -7,7 +7,10 @@ pub mod Demand2
 pub mod Going
 pub mod Judged
 pub mod Instance
-pub mod Promise
+pub mod SolveGrounds
+pub mod Answered
+pub mod Promises
+pub mod PointLength
 pub mod Copies
 pub mod TwoSlots
 pub mod Slots

@@ -5,10 +5,14 @@ use Prim.Native.Nat.{ℕ, zero, suc, _+_, _-_, _≤_, _<_}
 use native.Mathlib.Nat.{zero-add, suc-add}
 use native.Mathlib.Decide.{decLe}
 use native.Mathlib.Omega.{arith}
+use lib.IntN.{ℤ}
 use Rattle.problem.specs.Problem.{Box}
-use Rattle.narrow.specs.Sweep.{Swept, empty, changed, unchanged}
+use Rattle.narrow.specs.Cuts.{Swept, empty, changed, unchanged}
 use Rattle.search.specs.Search.{lowerPart, upperPart, Next, go, out, end, step, run, Outcome, stopped, found, none}
+use Rattle.search.specs.Solve.{answered, pointOf}
 use Rattle.search.specs.Demand2.{Decides}
+use Rattle.search.specs.declared.Answer.the-variants as answer
+use Rattle.search.specs.declared.Solved.{Solved}
 use Rattle.search.specs.declared.Open.{Open}
 use Rattle.search.specs.declared.Open.the-variants.{At, Closed}
 
@@ -28,6 +32,22 @@ abbrev pub counted : ℕ → Outcome → Outcome
 counted budget (stopped c ws) = stopped c ws
 counted budget (found c ws left) = found c ws (budget - left)
 counted budget (none left) = none (budget - left)
+
+-- the result and the point of an outcome, by its count
+abbrev solvedAs : Outcome → Solved
+solvedAs (stopped c ws) = record { answer = answer.Stopped; sweeps = 0 }
+solvedAs (found c ws used) = record { answer = answer.Found; sweeps = used }
+solvedAs (none used) = record { answer = answer.None; sweeps = used }
+
+answered-counted : (k : ℕ) (o : Outcome) → Decides o → answered k o ≡ solvedAs (counted k o)
+answered-counted k (stopped c ws) e = absurd e
+answered-counted k (found c ws left) e = refl
+answered-counted k (none left) e = refl
+
+point-counted : (k : ℕ) (o : Outcome) (p : List ℤ) → pointOf o p ≡ pointOf (counted k o) p
+point-counted k (stopped c ws) p = refl
+point-counted k (found c ws left) p = refl
+point-counted k (none left) p = refl
 
 module _ (sweep : Box → Swept) (choose : Box → Open) where
   module _ (k : ℕ) (c : Box) (ws : List Box) where
@@ -57,11 +77,11 @@ module _ (sweep : Box → Swept) (choose : Box → Open) where
     unfolding step
     step-cut e = rw e
 
-    pub step-split : {q : ℕ} {ws : List Box} → sweep c ≡ unchanged → choose c ≡ At q → step sweep choose c ws ≡ go (lowerPart c q) (upperPart c q ∷ ws)
+    pub step-split : {c′ : Box} {q : ℕ} {ws : List Box} → sweep c ≡ unchanged c′ → choose c ≡ At q → step sweep choose c ws ≡ go (lowerPart c q) (upperPart c q ∷ ws)
     unfolding step
     step-split e f = rw (e, f)
 
-    pub step-end : (ws : List Box) → sweep c ≡ unchanged → choose c ≡ Closed → step sweep choose c ws ≡ end
+    pub step-end : {c′ : Box} (ws : List Box) → sweep c ≡ unchanged c′ → choose c ≡ Closed → step sweep choose c ws ≡ end
     unfolding step
     step-end ws e f = rw (e, f)
 
@@ -70,15 +90,15 @@ module _ (sweep : Box → Swept) (choose : Box → Open) where
     pub record Kept : Type 0 where
       pub taken : (c : Box) (ws : List Box) → I (c ∷ ws) → sweep c ≡ empty → I ws
       pub cut : (c b : Box) (ws : List Box) → I (c ∷ ws) → sweep c ≡ changed b → I (b ∷ ws)
-      pub split : (c : Box) (q : ℕ) (ws : List Box) → I (c ∷ ws) → sweep c ≡ unchanged → choose c ≡ At q → I (lowerPart c q ∷ upperPart c q ∷ ws)
+      pub split : (c c′ : Box) (q : ℕ) (ws : List Box) → I (c ∷ ws) → sweep c ≡ unchanged c′ → choose c ≡ At q → I (lowerPart c q ∷ upperPart c q ∷ ws)
 
     module _ (t : Kept) (k : ℕ) (on : (c : Box) (ws : List Box) → I (c ∷ ws) → I (boxesOf (run sweep choose k c ws))) (c : Box) where
       by-sweep : (ws : List Box) → I (c ∷ ws) → (x : Swept) → sweep c ≡ x → (y : Open) → choose c ≡ y → I (boxesOf (run sweep choose (suc k) c ws))
       by-sweep [] i empty e y f = rw (run-out k c [] (step-out e)) (t .taken c [] i e)
       by-sweep (w ∷ ws) i empty e y f = rw (run-go k c (w ∷ ws) (step-taken e)) (on w ws (t .taken c (w ∷ ws) i e))
       by-sweep ws i (changed b) e y f = rw (run-go k c ws (step-cut e)) (on b ws (t .cut c b ws i e))
-      by-sweep ws i unchanged e (At q) f = rw (run-go k c ws (step-split e f)) (on _ _ (t .split c q ws i e f))
-      by-sweep ws i unchanged e Closed f = rw (run-end k c ws (step-end ws e f)) i
+      by-sweep ws i (unchanged b) e (At q) f = rw (run-go k c ws (step-split e f)) (on _ _ (t .split c b q ws i e f))
+      by-sweep ws i (unchanged b) e Closed f = rw (run-end k c ws (step-end ws e f)) i
 
     pub kept : Kept → (k : ℕ) (c : Box) (ws : List Box) → I (c ∷ ws) → I (boxesOf (run sweep choose k c ws))
     unfolding run
@@ -88,7 +108,7 @@ module _ (sweep : Box → Swept) (choose : Box → Open) where
   -- found: a sweep left the box unchanged, and it has nothing to split
   abbrev pub Quiet : Outcome → Type 0
   Quiet (stopped c ws) = Unit {0}
-  Quiet (found c ws left) = (sweep c ≡ unchanged) × (choose c ≡ Closed)
+  Quiet (found c ws left) = (b : Box) × (sweep c ≡ unchanged b) × (choose c ≡ Closed)
   Quiet (none left) = Unit {0}
 
   pub quiet : (k : ℕ) (c : Box) (ws : List Box) → Quiet (run sweep choose k c ws)
@@ -100,8 +120,8 @@ module _ (sweep : Box → Swept) (choose : Box → Open) where
       by [] empty e y f on = rw (run-out k c [] (step-out e)) tt
       by (w ∷ ws) empty e y f on = rw (run-go k c (w ∷ ws) (step-taken e)) (on w ws)
       by ws (changed b) e y f on = rw (run-go k c ws (step-cut e)) (on b ws)
-      by ws unchanged e (At q) f on = rw (run-go k c ws (step-split e f)) (on _ _)
-      by ws unchanged e Closed f on = rw (run-end k c ws (step-end ws e f)) (e, f)
+      by ws (unchanged b) e (At q) f on = rw (run-go k c ws (step-split e f)) (on _ _)
+      by ws (unchanged b) e Closed f on = rw (run-end k c ws (step-end ws e f)) (b, e, f)
 
   -- ---- a larger budget
   -- what m more sweeps make of an outcome
@@ -158,6 +178,15 @@ module _ (sweep : Box → Swept) (choose : Box → Open) where
         by m (stopped c ws) e lt = absurd e
         by m (found c ws left) e lt = ap (found c ws) (omega arith)
         by m (none left) e lt = ap none (omega arith)
+
+    -- and so the same result and the same point
+    pub steady-answer : (k l : ℕ) → k ≤ l → Decides (run sweep choose k c ws) → answered l (run sweep choose l c ws) ≡ answered k (run sweep choose k c ws)
+    steady-answer k l h e =
+        answered-counted l (run sweep choose l c ws) (decides-on k l h e) ∙ ap solvedAs (steady k l h e) ∙ sym (answered-counted k (run sweep choose k c ws) e)
+
+    pub steady-point : (k l : ℕ) → k ≤ l → Decides (run sweep choose k c ws) → (p : List ℤ) → pointOf (run sweep choose l c ws) p ≡ pointOf (run sweep choose k c ws) p
+    steady-point k l h e p =
+        point-counted l (run sweep choose l c ws) p ∙ ap (λ (o : Outcome). pointOf o p) (steady k l h e) ∙ sym (point-counted k (run sweep choose k c ws) p)
 
     used-is : (k : ℕ) (o : Outcome) → Decides o → leftOf (counted k o) ≡ k - leftOf o
     used-is k (stopped c ws) e = absurd e

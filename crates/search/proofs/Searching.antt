@@ -14,10 +14,10 @@ use Rattle.problem.specs.Lists.{primitivesOf, literalsOf, clausesOf, problemOf}
 use Rattle.problem.specs.inner.Placed.{Placed}
 use Rattle.narrow.specs.Sweep.{sweepOf}
 use Rattle.narrow.specs.inner.Done.{Fine}
+use Rattle.narrow.specs.Parts.{Part}
 use Rattle.search.specs.Search.{Outcome, lowest, searchOf}
 use Rattle.search.specs.Depth.{depth, roomOf}
 use Rattle.search.specs.Solve.{answered, pointOf}
-use Rattle.search.specs.inner.Laws.{Part}
 use Rattle.search.specs.inner.Ready.{Started, Ready, Searched}
 use Rattle.search.specs.inner.Steps.{Splittable}
 use Rattle.search.specs.declared.Solved.{Solved}

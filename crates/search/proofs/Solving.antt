@@ -10,7 +10,7 @@ use lib.IntN.{ℤ, pos, negsuc, natAbs}
 use lib.Signed.{ltZ, _≤ℤ_}
 use mir.Syntax.{w64}
 use mir.Val.{SFits}
-use Rattle.whole.specs.Numbers.{P}
+use Rattle.whole.specs.Numbers.{positivePart}
 use Rattle.whole.proofs.Kit.{ints, at, rd}
 use Rattle.problem.specs.declared.Refusal.{Refusal}
 use Rattle.problem.specs.declared.Judged.{Judged}
@@ -24,7 +24,7 @@ use Rattle.search.specs.declared.Solved.{Solved}
 use Rattle.search.proofs.Judged.{accepted, ready}
 
 -- the budget as a count
-count-is : (z : ℤ) → pos 0 ≤ℤ z → natAbs z ≡ P z
+count-is : (z : ℤ) → pos 0 ≤ℤ z → natAbs z ≡ positivePart z
 count-is (pos n) h = omega arith
 count-is (negsuc n) h = absurd (omega ints)
 
@@ -41,7 +41,7 @@ module _ (rs ps ns ls : List ℤ) (budget : ℤ) (p₀ w₀ : List ℤ) where
     pub budget-sign : pos 0 ≤ℤ budget
     budget-sign = let h = or-first (ltZ budget (pos 0)) (ltZ (pos 1_000_000_000) budget) (accepted rs ps ns ls budget p₀ w₀ e .count) in omega ints
 
-    pub budget-is : SFits w64 budget → natAbs (at budget) ≡ P budget
+    pub budget-is : SFits w64 budget → natAbs (at budget) ≡ positivePart budget
     budget-is f = ap natAbs (rd f) ∙ count-is budget budget-sign
 
     -- the room lies in the workspace that the search leaves
@@ -53,9 +53,9 @@ module _ (rs ps ns ls : List ℤ) (budget : ℤ) (p₀ w₀ : List ℤ) where
       room-long = sym (length-take-le m w room-in)
 
       -- it was searched and cleared
-      pub solves : (k : ℕ) (p zs : List ℤ) (s : Solved) → k ≡ P budget → Searched rs ps ns ls k p₀ w₀ p w s → zs ≡ replicate (length (take m w)) (pos 0) → Solves rs ps ns ls budget p₀ w₀ p (zs ++ drop m w) s
+      pub solves : (k : ℕ) (p zs : List ℤ) (s : Solved) → k ≡ positivePart budget → Searched rs ps ns ls k p₀ w₀ p w s → zs ≡ replicate (length (take m w)) (pos 0) → Solves rs ps ns ls budget p₀ w₀ p (zs ++ drop m w) s
       solves k p zs s ek sr ez =
-          let r : Searched rs ps ns ls (P budget) p₀ w₀ p w s = subst (λ (j : ℕ). Searched rs ps ns ls j p₀ w₀ p w s) ek sr in
+          let r : Searched rs ps ns ls (positivePart budget) p₀ w₀ p w s = subst (λ (j : ℕ). Searched rs ps ns ls j p₀ w₀ p w s) ek sr in
           let front : zs ≡ replicate (roomOf rs) (pos 0) = ez ∙ ap (λ (j : ℕ). replicate j (pos 0)) (sym room-long ∙ is) in
           let back : drop m w ≡ drop (roomOf rs) w₀ = ap (λ (j : ℕ). drop j w) is ∙ r .rest in
           record { result = rw e (r .result); point = rw e (r .point); work = rw e (ap (λ (x : List ℤ). x ++ drop m w) front ∙ ap (λ (x : List ℤ). replicate (roomOf rs) (pos 0) ++ x) back) }

@@ -10,14 +10,14 @@ use lib.ListN.{set, length-set}
 use lib.Seq.{getD-set-same, getD-set-other}
 use lib.IntN.{ℤ, pos, _+ℤ_}
 use lib.Signed.{_≤ℤ_, _<ℤ_, leZ}
-use Rattle.whole.specs.Numbers.{P, N}
+use Rattle.whole.specs.Numbers.{positivePart, negativePart}
 use Rattle.whole.specs.Ranges.{Point}
 use Rattle.whole.proofs.Kit.{ints, plus}
 use Rattle.whole.proofs.Meaning.{middle-is}
 use Rattle.problem.specs.Problem.{Box, lowAt, highAt, Inside}
 use Rattle.problem.specs.Order.{Before}
+use Rattle.narrow.specs.Parts.{Part}
 use Rattle.search.specs.Search.{middleAt, lowerPart, upperPart}
-use Rattle.search.specs.inner.Laws.{Part}
 
 pub part-trans : {n : ℕ} {a b c : Box} → Part n a b → Part n b c → Part n a c
 part-trans f g =
@@ -86,8 +86,8 @@ pub record Splits (n : ℕ) (b : Box) (q : ℕ) : Type 0 where
 module _ {n : ℕ} {b : Box} {q : ℕ} (z : Splits n b q) where
   -- twice the middle is the sum or one less
   pub record Halved : Type 0 where
-    pub up : 2 * P (middleAt b q) + (N (lowAt b q) + N (highAt b q)) ≤ P (lowAt b q) + P (highAt b q) + 2 * N (middleAt b q)
-    pub down : P (lowAt b q) + P (highAt b q) + 2 * N (middleAt b q) ≤ 2 * P (middleAt b q) + (N (lowAt b q) + N (highAt b q)) + 1
+    pub up : 2 * positivePart (middleAt b q) + (negativePart (lowAt b q) + negativePart (highAt b q)) ≤ positivePart (lowAt b q) + positivePart (highAt b q) + 2 * negativePart (middleAt b q)
+    pub down : positivePart (lowAt b q) + positivePart (highAt b q) + 2 * negativePart (middleAt b q) ≤ 2 * positivePart (middleAt b q) + (negativePart (lowAt b q) + negativePart (highAt b q)) + 1
 
   pub halved : Halved
   halved =

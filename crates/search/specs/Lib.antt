@@ -2,4 +2,5 @@ pub mod Search
 pub mod Depth
 pub mod Solve
 pub mod Demand2
+pub mod Promises
 pub mod inner

@@ -1,6 +1,6 @@
 -- The search: document 01, "The search". It goes by a budget of sweeps, one a step, whatever a sweep does and whichever quantity is split;
 -- the last lines put in document 01's sweep and its choice.
-use mathlib.Core.Bool.{Bool, true, false}
+use mathlib.Core.Bool.{true, false}
 use mathlib.Core.List.{List, [], _∷_}
 use Prim.Native.Nat.{ℕ, zero, suc, _+_, _*_}
 use lib.ListN.{set}
@@ -8,7 +8,8 @@ use lib.IntN.{ℤ, pos, _+ℤ_}
 use lib.Signed.{ltZ}
 use Rattle.whole.specs.Numbers.{middleOf}
 use Rattle.problem.specs.Problem.{Box, lowAt, highAt, quantities, Problem}
-use Rattle.narrow.specs.Sweep.{Swept, empty, changed, unchanged, sweepOf}
+use Rattle.narrow.specs.Cuts.{Swept, empty, changed, unchanged}
+use Rattle.narrow.specs.Sweep.{sweepOf}
 use Rattle.search.specs.declared.Open.{Open}
 use Rattle.search.specs.declared.Open.the-variants.{At, Closed}
 
@@ -24,40 +25,46 @@ lowerPart b q = set b (2 * q + 1) (middleAt b q)
 abbrev pub upperPart : Box → ℕ → Box
 upperPart b q = set b (2 * q) (middleAt b q +ℤ pos 1)
 
--- where a sweep leads: on with a box and the boxes that wait, the one stored last first; out of boxes; or to a box with nothing to split
-pub data Next : Type 0 where
-  go : Box → List Box → Next
-  out : Next
-  end : Next
-
--- nothing changed: found where there is nothing to split; else the upper part waits, and it goes on with the lower
-abbrev pub afterUnchanged : Open → Box → List Box → Next
-afterUnchanged (At q) c ws = go (lowerPart c q) (upperPart c q ∷ ws)
-afterUnchanged Closed c ws = end
-
--- empty: take the waiting box stored last, if there is one; a range changed: sweep the same box again
-abbrev pub afterSweep : Swept → Open → Box → List Box → Next
-afterSweep empty o c [] = out
-afterSweep empty o c (w ∷ ws) = go w ws
-afterSweep (changed b) o c ws = go b ws
-afterSweep unchanged o c ws = afterUnchanged o c ws
-
 -- stopped: the box about to be swept and those that wait; found: the box, those that wait, and the sweeps left; none: the sweeps left
 pub data Outcome : Type 0 where
   stopped : Box → List Box → Outcome
   found : Box → List Box → ℕ → Outcome
   none : ℕ → Outcome
 
+-- the boxes that wait after as many sweeps as the budget, or where the search ends
+abbrev pub waitingOf : Outcome → List Box
+waitingOf (stopped c ws) = ws
+waitingOf (found c ws left) = ws
+waitingOf (none left) = []
+
+-- where a sweep leads: on with a box and the boxes that wait, the one stored last first; out of boxes; or to a box with nothing to split
+pub data Next : Type 0 where
+  go : Box → List Box → Next
+  out : Next
+  end : Next
+
+abbrev pub afterSweep : Swept → Open → Box → List Box → Next
+-- 2. Empty after the sweep: take the waiting box stored last; if there is none, none
+afterSweep empty o c [] = out
+afterSweep empty o c (w ∷ ws) = go w ws
+-- 3. A range changed: sweep the same box again
+afterSweep (changed b) o c ws = go b ws
+-- 4. Nothing changed and every range is one value, so that there is nothing to split: found
+afterSweep (unchanged b) Closed c ws = end
+-- 5. Nothing changed otherwise: cut the open quantity at m; the upper part waits; go on with the lower
+afterSweep (unchanged b) (At q) c ws = go (lowerPart c q) (upperPart c q ∷ ws)
+
 module _ (sweep : Box → Swept) (choose : Box → Open) where
   unfoldable pub step : Box → List Box → Next
   step c ws = let o = choose c in afterSweep (sweep c) o c ws
 
-  -- each step is one sweep; a sweep that is needed where none is left stops it
   unfoldable pub run : ℕ → Box → List Box → Outcome
+  -- 1. If a sweep is needed and none is left: stopped
   run zero c ws = stopped c ws
+  -- else a sweep costs one from the budget, and 2 to 5 say where it leads
   run (suc k) c ws = elim (step c ws) [ go b bs ↦ run k b bs | out ↦ none k | end ↦ found c ws k ]
 
--- the lowest-numbered of k quantities from q on that has more than one value
+-- the lowest-numbered quantity with more than one value, of k from q on
 unfoldable pub openFrom : Box → ℕ → ℕ → Open
 openFrom b zero q = Closed
 openFrom b (suc k) q = elim (ltZ (lowAt b q) (highAt b q)) [ true ↦ At q | false ↦ openFrom b k (suc q) ]

@@ -1,17 +1,16 @@
 -- What a solve gives back, and what it leaves in the caller's buffers: document 01, "What a solve gives back".
 use mathlib.Core.Path.{_≡_}
-use mathlib.Core.Bool.{Bool, not, cond, _||_}
+use mathlib.Core.Bool.{Bool, true, not, cond, _||_}
 use mathlib.Core.List.{List, [], _∷_, _++_}
 use Prim.Native.Nat.{ℕ, _-_}
 use lib.Dec.{eqb, ltb}
 use lib.IntN.{ℤ, pos}
 use lib.ListN.{length, drop, replicate}
 use lib.Signed.{ltZ}
-use Rattle.whole.specs.Numbers.{P}
+use Rattle.whole.specs.Numbers.{positivePart}
 use Rattle.problem.specs.Problem.{Box, quantities}
 use Rattle.problem.specs.Lists.{problemOf}
-use Rattle.problem.specs.Grounds.{judgeOf, refusalNumber}
-use Rattle.problem.specs.declared.Refusal.{Refusal}
+use Rattle.problem.specs.Grounds.{badQuantities, badLists, badRanges, badPrimitives, badLiterals, judgeOf, refusalNumber}
 use Rattle.problem.specs.declared.Refusal.the-variants.{Budget, Room}
 use Rattle.problem.specs.declared.Judged.{Judged}
 use Rattle.problem.specs.declared.Judged.the-variants.{Sound, Refused}
@@ -28,6 +27,23 @@ badBudget budget = ltZ budget (pos 0) || ltZ (pos 1_000_000_000) budget
 -- 7: point buffer not n numbers, or workspace too short
 abbrev pub badRoom : List ℤ → List ℤ → List ℤ → Bool
 badRoom rs point work = not (eqb (length point) (quantities rs)) || ltb (length work) (roomOf rs)
+
+-- the grounds of a refusal by their numbers
+pub data SolveGround (rs ps ns ls : List ℤ) (budget : ℤ) (point work : List ℤ) : ℕ → Type 0 where
+  -- range list odd, or n not 1 to 128
+  by-quantities : badQuantities rs ≡ true → SolveGround rs ps ns ls budget point work 1
+  -- a list too long, primitive list not in fours, a clause length below 0, or literal list not three times the sum of lengths
+  by-lists : badLists ps ns ls ≡ true → SolveGround rs ps ns ls budget point work 2
+  -- a range with low above high, or an end beyond plus or minus M
+  by-ranges : badRanges rs ≡ true → SolveGround rs ps ns ls budget point work 3
+  -- unknown kind, missing quantity, or y not 0 in kind 3
+  by-primitives : badPrimitives (quantities rs) ps ≡ true → SolveGround rs ps ns ls budget point work 4
+  -- literal with missing quantity, unknown sense, or bound beyond plus or minus M
+  by-literals : badLiterals (quantities rs) ls ≡ true → SolveGround rs ps ns ls budget point work 5
+  -- budget outside 0 to 1,000,000,000
+  by-budget : badBudget budget ≡ true → SolveGround rs ps ns ls budget point work 6
+  -- point buffer not n numbers, or workspace too short
+  by-room : badRoom rs point work ≡ true → SolveGround rs ps ns ls budget point work 7
 
 -- the first ground met, 1 to 7
 abbrev pub orElse : Judged → Judged → Judged
@@ -73,8 +89,8 @@ cleared room work = replicate room (pos 0) ++ drop room work
 
 -- the result, and what point buffer and workspace hold (p, w), from what they came with (p₀, w₀)
 pub record Solves (rs ps ns ls : List ℤ) (budget : ℤ) (p₀ w₀ p w : List ℤ) (r : Solved) : Type 0 where
-  pub result : r ≡ resultOf (judged rs ps ns ls budget p₀ w₀) (P budget) (searchOf (problemOf rs ps ns ls) (P budget))
-  pub point : p ≡ unless (judged rs ps ns ls budget p₀ w₀) (pointOf (searchOf (problemOf rs ps ns ls) (P budget)) p₀) p₀
+  pub result : r ≡ resultOf (judged rs ps ns ls budget p₀ w₀) (positivePart budget) (searchOf (problemOf rs ps ns ls) (positivePart budget))
+  pub point : p ≡ unless (judged rs ps ns ls budget p₀ w₀) (pointOf (searchOf (problemOf rs ps ns ls) (positivePart budget)) p₀) p₀
   pub work : w ≡ unless (judged rs ps ns ls budget p₀ w₀) (cleared (roomOf rs) w₀) w₀
 
 -- document 01's number of a refusal; 0 where there is none

@@ -1,4 +1,3 @@
 pub mod Laws
 pub mod Ready
 pub mod Steps
-pub mod Waiting

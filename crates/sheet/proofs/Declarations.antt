@@ -5,7 +5,7 @@ use mathlib.Core.List.{List, [], _∷_}
 use mathlib.Core.Option.{none, some}
 use Prim.Native.Nat.{ℕ, _-_, _≤_, _<_}
 use native.Mathlib.Omega.{arith}
-use lib.Dec.{eqb, lit<}
+use lib.Dec.{eqb}
 use lib.IntN.{ℤ, pos, negsuc, _-ℤ_}
 use lib.ListN.{length}
 use borrow.Author.Tests.{ne-eqb}
@@ -14,36 +14,14 @@ use mir.Val.{SFits}
 use types.Run.{OneOf, miss}
 use denote.Enum.Declared.{tagOf}
 use Rattle.sheet.proofs.Token.{the-type}
+use Rattle.sheet.proofs.Heads.{mark-above}
 use Rattle.whole.proofs.Kit.{ints, minus}
 use Rattle.sheet.specs.Grammar.{ranged, default}
 use Rattle.sheet.specs.Reading.{tokenNo, headOf, restOf, headNo, signedOf, isSigned, readRange}
 use Rattle.sheet.specs.inner.Forms.{declarationOf}
 use Rattle.sheet.specs.declared.Declaration.the-variants.{Plain, Ranged, No}
-use Rattle.sheet.specs.declared.Mark.{Mark}
-use Rattle.sheet.specs.declared.Mark.the-variants.{Open, Close, Plus, Minus, Times, Square, AtMost, Below, AtLeast, Above, Equal, Differ, Range, Must, If, Then, And, Or}
 use Rattle.sheet.specs.declared.Token.{Token}
 use Rattle.sheet.specs.declared.Token.the-variants.{Number, Negative, Name, Fixed, Bad}
-
--- the numbers of marks are above those of other tokens
-pub mark-above : (m : Mark) → 3 < tokenNo (Fixed m)
-mark-above Open = lit< tt
-mark-above Close = lit< tt
-mark-above Plus = lit< tt
-mark-above Minus = lit< tt
-mark-above Times = lit< tt
-mark-above Square = lit< tt
-mark-above AtMost = lit< tt
-mark-above Below = lit< tt
-mark-above AtLeast = lit< tt
-mark-above Above = lit< tt
-mark-above Equal = lit< tt
-mark-above Differ = lit< tt
-mark-above Range = lit< tt
-mark-above Must = lit< tt
-mark-above If = lit< tt
-mark-above Then = lit< tt
-mark-above And = lit< tt
-mark-above Or = lit< tt
 
 -- a token that is no name
 pub not-name : (t : Token) → OneOf (0 ∷ 1 ∷ 3 ∷ 4 ∷ []) (tagOf the-type t) → eqb (tokenNo t) 2 ≡ false

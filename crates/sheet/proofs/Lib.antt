@@ -7,15 +7,13 @@ pub mod Steps
 pub mod Marks
 pub mod Contents
 pub mod Declarations
-pub mod LineForms
 pub mod Depths
 pub mod Nesting
 pub mod Names
-pub mod Once
 pub mod Heads
-pub mod Pieces
 pub mod Spelling
 pub mod SpellingComparisons
 pub mod SpellingLines
 pub mod Truth
 pub mod Worked
+pub mod Promises

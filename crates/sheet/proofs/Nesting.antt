@@ -1,91 +1,119 @@
--- A line that is not too deep spells no tree whose brackets nest deeper than 16. Where a tree begins with o opened and c closed, its innermost
--- bracket is the one with its depth more opened, and behind the tree as many were closed as opened.
-use mathlib.Core.Path.{_≡_, refl}
-use mathlib.Core.Bool.{Bool, true, false, cond}
+-- A line that spells a tree is too deep exactly if the tree's brackets nest deeper than 16. Where a tree begins with o opened and c closed, its
+-- innermost bracket is the one with its depth more opened, and behind the tree as many were closed as opened.
+use mathlib.Core.Path.{_≡_, refl, sym}
+use mathlib.Core.Bool.{Bool, true, false, cond, true≢false}
 use mathlib.Core.List.{List, [], _∷_, _++_, append-assoc, append-nil}
-use Prim.Native.Nat.{ℕ, suc, _+_, _≤_, max}
+use mathlib.Core.Logic.{_↔_}
+use Prim.Native.Nat.{ℕ, suc, _+_, _≤_, _<_, max}
+use native.Mathlib.Nat.{zero-add}
 use native.Mathlib.Omega.{arith}
 use lib.Dec.{ltb}
-use borrow.Author.Tests.{ltb-false}
-use Rattle.sheet.specs.Grammar.{Expr, one, plus, minus, Term, lone, times, Factor, bare, squared, Atom, number, name, bracket, Comparison, Line, ranged, default, must, when, spellE, spellT, spellF, spellA, markFor, spellC, spellAll, spellLine}
+use lib.IntN.{ℤ, pos, negsuc}
+use borrow.Author.Tests.{ltb-true, ltb-false}
+use Rattle.sheet.specs.Tokens.{tokensOf}
+use Rattle.sheet.specs.Grammar.{Expr, one, plus, minus, Term, lone, times, Factor, bare, squared, Atom, number, name, bracket, Comparison, Line, ranged, default, must, when, spellE, spellT, spellF, spellA, markFor, spellC, spellAll, signed, spellLine}
 use Rattle.sheet.specs.Depth.{opensOf, closesOf, deepFrom, tooDeep, depthE, depthT, depthF, depthA, depthC, depthAll, depthLine}
 use Rattle.sheet.specs.declared.Mark.{Mark}
-use Rattle.sheet.specs.declared.Mark.the-variants.{Open, Close, Plus, Minus, Times, Square, Must, If, Then, And, Or}
+use Rattle.sheet.specs.declared.Mark.the-variants.{Open, Close, Plus, Minus, Times, Square, Range, Must, If, Then, And, Or}
 use Rattle.sheet.specs.declared.Sign.{Sign}
 use Rattle.sheet.specs.declared.Sign.the-variants.{AtMost, Below, AtLeast, Above, Equal, Differ}
 use Rattle.sheet.specs.declared.Token.{Token}
 use Rattle.sheet.specs.declared.Token.the-variants.{Number, Name, Fixed}
 
 -- one token: what is open at it, and what is asked of the others
-step : (t : Token) (o c o′ c′ : ℕ) (ts : List Token) → o′ ≡ o + opensOf t → c′ ≡ c + closesOf t → deepFrom o c (t ∷ ts) ≡ false → (o′ ≤ c′ + 16) × (deepFrom o′ c′ ts ≡ false)
+step : (t : Token) (o c o′ c′ : ℕ) (ts : List Token) → o′ ≡ o + opensOf t → c′ ≡ c + closesOf t
+    → (deepFrom o c (t ∷ ts) ≡ false) ↔ ((o′ ≤ c′ + 16) × (deepFrom o′ c′ ts ≡ false))
 unfolding deepFrom
-step t o c o′ c′ ts p q h = rw (p, q) (by (ltb (c + closesOf t + 16) (o + opensOf t)) refl h)
+step t o c o′ c′ ts p q = rw (← p, ← q) (by (ltb (c′ + 16) o′) refl)
   where
-    by : (b : Bool) → ltb (c + closesOf t + 16) (o + opensOf t) ≡ b → cond b true (deepFrom (o + opensOf t) (c + closesOf t) ts) ≡ false →
-        (o + opensOf t ≤ c + closesOf t + 16) × (deepFrom (o + opensOf t) (c + closesOf t) ts ≡ false)
-    by true e k = let z : _≡_ {A = ℕ} 0 1 = cc in absurd (omega arith)
-    by false e k = (ltb-false (c + closesOf t + 16) (o + opensOf t) e, k)
+    by : (b : Bool) → ltb (c′ + 16) o′ ≡ b → (cond b true (deepFrom o′ c′ ts) ≡ false) ↔ ((o′ ≤ c′ + 16) × (deepFrom o′ c′ ts ≡ false))
+    by true e = ((λ k. absurd (true≢false k)), (λ g. let h = ltb-true (c′ + 16) o′ e in absurd (omega (arith, g .0))))
+    by false e = ((λ k. (ltb-false (c′ + 16) o′ e, k)), (λ g. g .1))
 
 -- a token that is no bracket
-plain : (t : Token) (o c : ℕ) (ts : List Token) → opensOf t ≡ 0 → closesOf t ≡ 0 → deepFrom o c (t ∷ ts) ≡ false → (o ≤ c + 16) × (deepFrom o c ts ≡ false)
-plain t o c ts p q h = step t o c o c ts (omega arith) (omega arith) h
+plain : (t : Token) (o c : ℕ) (ts : List Token) → opensOf t ≡ 0 → closesOf t ≡ 0 → (deepFrom o c (t ∷ ts) ≡ false) ↔ ((o ≤ c + 16) × (deepFrom o c ts ≡ false))
+plain t o c ts p q = step t o c o c ts (omega arith) (omega arith)
 
--- d more are open somewhere in what was read, n were opened and closed in it, and what is asked of the tokens behind it
-record Within (d o c : ℕ) (rest : List Token) : Type 0 where
+-- of these tokens some come first and the others behind: in the first, d more are open somewhere, and as many closed as opened
+record Nests (d : ℕ) (ts rest : List Token) : Type 0 where
   n : ℕ
-  fits : d + o ≤ c + 16
-  later : deepFrom (o + n) (c + n) rest ≡ false
+  exact : (o c : ℕ) → (deepFrom o c ts ≡ false) ↔ ((d + o ≤ c + 16) × (deepFrom (o + n) (c + n) rest ≡ false))
 
 -- two parts with a token between them that is no bracket
-joined : (d e o c : ℕ) (t : Token) (ts rest : List Token) → opensOf t ≡ 0 → closesOf t ≡ 0 → Within d o c (t ∷ ts) → ((o′ c′ : ℕ) → deepFrom o′ c′ ts ≡ false → Within e o′ c′ rest) → Within (max d e) o c rest
-joined d e o c t ts rest p q h f =
-    let g = plain t (o + h .n) (c + h .n) ts p q (h .later) in
-    let k = f (o + h .n) (c + h .n) (g .1) in
-    let a : o + (h .n + k .n) ≡ o + h .n + k .n = omega arith in
-    let b : c + (h .n + k .n) ≡ c + h .n + k .n = omega arith in
-    record { n = h .n + k .n; fits = omega (arith, h .fits, k .fits); later = rw (a, b) (k .later) }
+joined : (d e : ℕ) (t : Token) (ts us rest : List Token) → opensOf t ≡ 0 → closesOf t ≡ 0 → Nests d ts (t ∷ us) → Nests e us rest → Nests (max d e) ts rest
+joined d e t ts us rest p q f g = record { n = f .n + g .n; exact = λ o c. (to o c, from o c) }
+  where
+    both : (o : ℕ) → o + (f .n + g .n) ≡ o + f .n + g .n
+    both o = omega arith
+
+    to : (o c : ℕ) → deepFrom o c ts ≡ false → (max d e + o ≤ c + 16) × (deepFrom (o + (f .n + g .n)) (c + (f .n + g .n)) rest ≡ false)
+    to o c h =
+        let a = f .exact o c .0 h in
+        let b = plain t (o + f .n) (c + f .n) us p q .0 (a .1) in
+        let r = g .exact (o + f .n) (c + f .n) .0 (b .1) in
+        (omega (arith, a .0, r .0), rw (both o, both c) (r .1))
+
+    from : (o c : ℕ) → (max d e + o ≤ c + 16) × (deepFrom (o + (f .n + g .n)) (c + (f .n + g .n)) rest ≡ false) → deepFrom o c ts ≡ false
+    from o c k =
+        let r = g .exact (o + f .n) (c + f .n) .1 (omega (arith, k .0), rw (both o, both c) at (k .1)) in
+        f .exact o c .1 (omega (arith, k .0), plain t (o + f .n) (c + f .n) us p q .1 (omega (arith, k .0), r))
 
 -- a token alone
-alone : (t : Token) (o c : ℕ) (rest : List Token) → opensOf t ≡ 0 → closesOf t ≡ 0 → deepFrom o c (t ∷ rest) ≡ false → Within 0 o c rest
-alone t o c rest p q h =
-    let g = plain t o c rest p q h in
-    let a : o + 0 ≡ o = omega arith in
-    let b : c + 0 ≡ c = omega arith in
-    record { n = 0; fits = omega (arith, g .0); later = rw (a, b) (g .1) }
+alone : (t : Token) (rest : List Token) → opensOf t ≡ 0 → closesOf t ≡ 0 → Nests 0 (t ∷ rest) rest
+alone t rest p q = record { n = 0; exact = λ o c. rw (same o, same c, zero-add o) (plain t o c rest p q) }
+  where
+    same : (o : ℕ) → o + 0 ≡ o
+    same o = omega arith
 
 -- a part with a token behind it
-ended : (d o c : ℕ) (t : Token) (rest : List Token) → opensOf t ≡ 0 → closesOf t ≡ 0 → Within d o c (t ∷ rest) → Within d o c rest
-ended d o c t rest p q h = record { n = h .n; fits = h .fits; later = plain t (o + h .n) (c + h .n) rest p q (h .later) .1 }
+ended : (d : ℕ) (t : Token) (ts rest : List Token) → opensOf t ≡ 0 → closesOf t ≡ 0 → Nests d ts (t ∷ rest) → Nests d ts rest
+ended d t ts rest p q f =
+    record {
+      n = f .n;
+      exact = λ o c. (
+        (λ h. let a = f .exact o c .0 h in (a .0, plain t (o + f .n) (c + f .n) rest p q .0 (a .1) .1)),
+        (λ k. f .exact o c .1 (k .0, plain t (o + f .n) (c + f .n) rest p q .1 (omega (arith, k .0), k .1))),
+      );
+    }
 
 -- a part in brackets
-bracketed : (d o c : ℕ) (ts rest : List Token) → ((o′ c′ : ℕ) → deepFrom o′ c′ ts ≡ false → Within d o′ c′ (Fixed Close ∷ rest)) → deepFrom o c (Fixed Open ∷ ts) ≡ false → Within (suc d) o c rest
-bracketed d o c ts rest f h =
-    let g = step (Fixed Open) o c (o + 1) c ts (omega arith) (omega arith) h in
-    let k = f (o + 1) c (g .1) in
-    let r = step (Fixed Close) (o + 1 + k .n) (c + k .n) (o + suc (k .n)) (c + suc (k .n)) rest (omega arith) (omega arith) (k .later) in
-    record { n = suc (k .n); fits = omega (arith, k .fits); later = r .1 }
+bracketed : (d : ℕ) (ts rest : List Token) → Nests d ts (Fixed Close ∷ rest) → Nests (suc d) (Fixed Open ∷ ts) rest
+bracketed d ts rest f = record { n = suc (f .n); exact = λ o c. (to o c, from o c) }
+  where
+    opened : (o c : ℕ) → (deepFrom o c (Fixed Open ∷ ts) ≡ false) ↔ ((o + 1 ≤ c + 16) × (deepFrom (o + 1) c ts ≡ false))
+    opened o c = step (Fixed Open) o c (o + 1) c ts (omega arith) (omega arith)
+
+    closed : (o c : ℕ) → (deepFrom (o + 1 + f .n) (c + f .n) (Fixed Close ∷ rest) ≡ false)
+        ↔ ((o + suc (f .n) ≤ c + suc (f .n) + 16) × (deepFrom (o + suc (f .n)) (c + suc (f .n)) rest ≡ false))
+    closed o c = step (Fixed Close) (o + 1 + f .n) (c + f .n) (o + suc (f .n)) (c + suc (f .n)) rest (omega arith) (omega arith)
+
+    to : (o c : ℕ) → deepFrom o c (Fixed Open ∷ ts) ≡ false → (suc d + o ≤ c + 16) × (deepFrom (o + suc (f .n)) (c + suc (f .n)) rest ≡ false)
+    to o c h = let a = f .exact (o + 1) c .0 (opened o c .0 h .1) in (omega (arith, a .0), closed o c .0 (a .1) .1)
+
+    from : (o c : ℕ) → (suc d + o ≤ c + 16) × (deepFrom (o + suc (f .n)) (c + suc (f .n)) rest ≡ false) → deepFrom o c (Fixed Open ∷ ts) ≡ false
+    from o c k = opened o c .1 (omega (arith, k .0), f .exact (o + 1) c .1 (omega (arith, k .0), closed o c .1 (omega (arith, k .0), k .1)))
 
 -- ---- expressions
 mutual
   unfolding spellE depthE
 
-  nestE : (e : Expr) (o c : ℕ) (rest : List Token) → deepFrom o c (spellE e ++ rest) ≡ false → Within (depthE e) o c rest
-  nestE (one t) o c rest h = nestT t o c rest h
-  nestE (plus e t) o c rest h = joined (depthE e) (depthT t) o c (Fixed Plus) (spellT t ++ rest) rest refl refl (nestE e o c (Fixed Plus ∷ (spellT t ++ rest)) (rw append-assoc at h)) (λ o′ c′ k. nestT t o′ c′ rest k)
-  nestE (minus e t) o c rest h = joined (depthE e) (depthT t) o c (Fixed Minus) (spellT t ++ rest) rest refl refl (nestE e o c (Fixed Minus ∷ (spellT t ++ rest)) (rw append-assoc at h)) (λ o′ c′ k. nestT t o′ c′ rest k)
+  nestE : (e : Expr) (rest : List Token) → Nests (depthE e) (spellE e ++ rest) rest
+  nestE (one t) rest = nestT t rest
+  nestE (plus e t) rest = rw append-assoc (joined (depthE e) (depthT t) (Fixed Plus) (spellE e ++ (Fixed Plus ∷ (spellT t ++ rest))) (spellT t ++ rest) rest refl refl (nestE e (Fixed Plus ∷ (spellT t ++ rest))) (nestT t rest))
+  nestE (minus e t) rest = rw append-assoc (joined (depthE e) (depthT t) (Fixed Minus) (spellE e ++ (Fixed Minus ∷ (spellT t ++ rest))) (spellT t ++ rest) rest refl refl (nestE e (Fixed Minus ∷ (spellT t ++ rest))) (nestT t rest))
 
-  nestT : (t : Term) (o c : ℕ) (rest : List Token) → deepFrom o c (spellT t ++ rest) ≡ false → Within (depthT t) o c rest
-  nestT (lone f) o c rest h = nestF f o c rest h
-  nestT (times t f) o c rest h = joined (depthT t) (depthF f) o c (Fixed Times) (spellF f ++ rest) rest refl refl (nestT t o c (Fixed Times ∷ (spellF f ++ rest)) (rw append-assoc at h)) (λ o′ c′ k. nestF f o′ c′ rest k)
+  nestT : (t : Term) (rest : List Token) → Nests (depthT t) (spellT t ++ rest) rest
+  nestT (lone f) rest = nestF f rest
+  nestT (times t f) rest = rw append-assoc (joined (depthT t) (depthF f) (Fixed Times) (spellT t ++ (Fixed Times ∷ (spellF f ++ rest))) (spellF f ++ rest) rest refl refl (nestT t (Fixed Times ∷ (spellF f ++ rest))) (nestF f rest))
 
-  nestF : (f : Factor) (o c : ℕ) (rest : List Token) → deepFrom o c (spellF f ++ rest) ≡ false → Within (depthF f) o c rest
-  nestF (bare a) o c rest h = nestA a o c rest h
-  nestF (squared a) o c rest h = ended (depthA a) o c (Fixed Square) rest refl refl (nestA a o c (Fixed Square ∷ rest) (rw append-assoc at h))
+  nestF : (f : Factor) (rest : List Token) → Nests (depthF f) (spellF f ++ rest) rest
+  nestF (bare a) rest = nestA a rest
+  nestF (squared a) rest = rw append-assoc (ended (depthA a) (Fixed Square) (spellA a ++ (Fixed Square ∷ rest)) rest refl refl (nestA a (Fixed Square ∷ rest)))
 
-  nestA : (a : Atom) (o c : ℕ) (rest : List Token) → deepFrom o c (spellA a ++ rest) ≡ false → Within (depthA a) o c rest
-  nestA (number n) o c rest h = alone (Number n) o c rest refl refl h
-  nestA (name n) o c rest h = alone (Name n) o c rest refl refl h
-  nestA (bracket e) o c rest h = bracketed (depthE e) o c (spellE e ++ (Fixed Close ∷ rest)) rest (λ o′ c′ k. nestE e o′ c′ (Fixed Close ∷ rest) k) (rw append-assoc at h)
+  nestA : (a : Atom) (rest : List Token) → Nests (depthA a) (spellA a ++ rest) rest
+  nestA (number n) rest = alone (Number n) rest refl refl
+  nestA (name n) rest = alone (Name n) rest refl refl
+  nestA (bracket e) rest = rw append-assoc (bracketed (depthE e) (spellE e ++ (Fixed Close ∷ rest)) rest (nestE e (Fixed Close ∷ rest)))
 
 -- ---- comparisons and lines
 sign-opens : (s : Sign) → opensOf (Fixed (markFor s)) ≡ 0
@@ -104,29 +132,64 @@ sign-closes Above = refl
 sign-closes Equal = refl
 sign-closes Differ = refl
 
-nestC : (x : Comparison) (o c : ℕ) (rest : List Token) → deepFrom o c (spellC x ++ rest) ≡ false → Within (depthC x) o c rest
+nestC : (x : Comparison) (rest : List Token) → Nests (depthC x) (spellC x ++ rest) rest
 unfolding spellC depthC
-nestC x o c rest h =
-    joined (depthE (x .left)) (depthE (x .right)) o c (Fixed (markFor (x .sign))) (spellE (x .right) ++ rest) rest (sign-opens (x .sign)) (sign-closes (x .sign))
-    (nestE (x .left) o c (Fixed (markFor (x .sign)) ∷ (spellE (x .right) ++ rest)) (rw append-assoc at h)) (λ o′ c′ k. nestE (x .right) o′ c′ rest k)
+nestC x rest =
+    let m = Fixed (markFor (x .sign)) in
+    let us = spellE (x .right) ++ rest in
+    rw append-assoc (joined (depthE (x .left)) (depthE (x .right)) m (spellE (x .left) ++ (m ∷ us)) us rest (sign-opens (x .sign)) (sign-closes (x .sign)) (nestE (x .left) (m ∷ us)) (nestE (x .right) rest))
 
-nestAll : (m : Mark) → opensOf (Fixed m) ≡ 0 → closesOf (Fixed m) ≡ 0 → (x : Comparison) (xs : List Comparison) (o c : ℕ) (rest : List Token) → deepFrom o c (spellAll m x xs ++ rest) ≡ false → Within (depthAll x xs) o c rest
+nestAll : (m : Mark) → opensOf (Fixed m) ≡ 0 → closesOf (Fixed m) ≡ 0 → (x : Comparison) (xs : List Comparison) (rest : List Token)
+    → Nests (depthAll x xs) (spellAll m x xs ++ rest) rest
 unfolding spellAll depthAll
-nestAll m p q x [] o c rest h = nestC x o c rest h
-nestAll m p q x (y ∷ ys) o c rest h =
-    joined (depthC x) (depthAll y ys) o c (Fixed m) (spellAll m y ys ++ rest) rest p q
-    (nestC x o c (Fixed m ∷ (spellAll m y ys ++ rest)) (rw append-assoc at h)) (λ o′ c′ k. nestAll m p q y ys o′ c′ rest k)
+nestAll m p q x [] rest = nestC x rest
+nestAll m p q x (y ∷ ys) rest =
+    let us = spellAll m y ys ++ rest in
+    rw append-assoc (joined (depthC x) (depthAll y ys) (Fixed m) (spellC x ++ (Fixed m ∷ us)) us rest p q (nestC x (Fixed m ∷ us)) (nestAll m p q y ys rest))
 
--- a line that spells a tree and is not too deep has no brackets nested deeper than 16
-pub not-deep : (x : Line) → tooDeep (spellLine x) ≡ false → depthLine x ≤ 16
+signed-opens : (z : ℤ) → opensOf (signed z) ≡ 0
+signed-opens (pos n) = refl
+signed-opens (negsuc n) = refl
+
+signed-closes : (z : ℤ) → closesOf (signed z) ≡ 0
+signed-closes (pos n) = refl
+signed-closes (negsuc n) = refl
+
+-- demands up to a line's end
+demands : (d : Comparison) (ds : List Comparison) → Nests (depthAll d ds) (spellAll Or d ds) []
+demands d ds = rw append-nil at (nestAll Or refl refl d ds [])
+
+-- a whole line, its first token no bracket
+from-first : (m : Mark) (d : ℕ) (ts : List Token) → opensOf (Fixed m) ≡ 0 → closesOf (Fixed m) ≡ 0 → Nests d ts [] → (tooDeep (Fixed m ∷ ts) ≡ false) ↔ (d ≤ 16)
+unfolding deepFrom
+from-first m d ts p q f = (
+  (λ h. let a = f .exact 0 0 .0 (plain (Fixed m) 0 0 ts p q .0 h .1) in omega (arith, a .0)),
+  (λ k. plain (Fixed m) 0 0 ts p q .1 (omega arith, f .exact 0 0 .1 (omega arith, refl))),
+)
+
+flat : (x : Line) → (tooDeep (spellLine x) ≡ false) ↔ (depthLine x ≤ 16)
 unfolding spellLine depthLine
-not-deep (ranged n low high) h = omega arith
-not-deep (default n) h = omega arith
-not-deep (must d ds) h =
-    let k : deepFrom 0 0 (spellAll Or d ds ++ []) ≡ false = rw append-nil (plain (Fixed Must) 0 0 (spellAll Or d ds) refl refl h .1) in
-    omega (arith, nestAll Or refl refl d ds 0 0 [] k .fits)
-not-deep (when x xs d ds) h =
-    let k = plain (Fixed If) 0 0 (spellAll And x xs ++ (Fixed Then ∷ spellAll Or d ds)) refl refl h .1 in
-    let w = joined (depthAll x xs) (depthAll d ds) 0 0 (Fixed Then) (spellAll Or d ds) [] refl refl
-    (nestAll And refl refl x xs 0 0 (Fixed Then ∷ spellAll Or d ds) k) (λ o c g. nestAll Or refl refl d ds o c [] (rw append-nil g)) in
-    omega (arith, w .fits)
+flat (ranged n low high) =
+    let us = signed high ∷ [] in
+    let ts = Name n ∷ signed low ∷ us in
+    from-first Range 0 ts refl refl
+    (joined 0 0 (signed low) ts us [] (signed-opens low) (signed-closes low) (alone (Name n) (signed low ∷ us) refl refl) (alone (signed high) [] (signed-opens high) (signed-closes high)))
+flat (default n) = from-first Range 0 (Name n ∷ []) refl refl (alone (Name n) [] refl refl)
+flat (must d ds) = from-first Must (depthAll d ds) (spellAll Or d ds) refl refl (demands d ds)
+flat (when x xs d ds) =
+    let us = spellAll Or d ds in
+    let ts = spellAll And x xs ++ (Fixed Then ∷ us) in
+    from-first If (max (depthAll x xs) (depthAll d ds)) ts refl refl
+    (joined (depthAll x xs) (depthAll d ds) (Fixed Then) ts us [] refl refl (nestAll And refl refl x xs (Fixed Then ∷ us)) (demands d ds))
+
+-- a line that spells a tree is too deep exactly if the tree's brackets nest deeper than 16
+pub deep-exactly : (l : List ℕ) (x : Line) → tokensOf l ≡ spellLine x → (tooDeep (tokensOf l) ≡ true) ↔ (16 < depthLine x)
+deep-exactly l x e = rw e (by (tooDeep (spellLine x)) (flat x))
+  where
+    above : (b : Bool) → ltb 16 (depthLine x) ≡ b → (depthLine x ≤ 16 → ⊥) → 16 < depthLine x
+    above true p h = ltb-true 16 (depthLine x) p
+    above false p h = absurd (h (ltb-false 16 (depthLine x) p))
+
+    by : (b : Bool) → (b ≡ false) ↔ (depthLine x ≤ 16) → (b ≡ true) ↔ (16 < depthLine x)
+    by true i = ((λ h. above (ltb 16 (depthLine x)) refl (λ k. true≢false (i .1 k))), (λ h. refl))
+    by false i = ((λ h. absurd (true≢false (sym h))), (λ h. let k = i .0 refl in absurd (omega arith)))

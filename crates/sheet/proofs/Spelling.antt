@@ -37,20 +37,20 @@ same f a b us vs h = ap (spelt f) h
 -- ---- sound
 
 -- what is read is spelt by its tree; and the same of a reading that goes on from a tree
-abbrev pub Sound : {A : Type 0} → (A → List Token) → (List Token → Read A) → Type 0
-Sound {A} spell read = (ts : List Token) (a : A) (rest : List Token) → read ts ≡ some (a, rest) → ts ≡ spell a ++ rest
+abbrev pub SpeltBy : {A : Type 0} → (A → List Token) → (List Token → Read A) → Type 0
+SpeltBy {A} spell read = (ts : List Token) (a : A) (rest : List Token) → read ts ≡ some (a, rest) → ts ≡ spell a ++ rest
 
-abbrev SoundOn : {A : Type 0} → (A → List Token) → (A → List Token → Read A) → Type 0
-SoundOn {A} spell read = (acc : A) (ts : List Token) (a : A) (rest : List Token) → read acc ts ≡ some (a, rest) → spell acc ++ ts ≡ spell a ++ rest
+abbrev SpeltOn : {A : Type 0} → (A → List Token) → (A → List Token → Read A) → Type 0
+SpeltOn {A} spell read = (acc : A) (ts : List Token) (a : A) (rest : List Token) → read acc ts ≡ some (a, rest) → spell acc ++ ts ≡ spell a ++ rest
 
 module _ (k : ℕ) where
-  expr-sound : Sound spellT (termF k) → SoundOn spellE (sumF k) → Sound spellE (exprF (suc k))
+  expr-sound : SpeltBy spellT (termF k) → SpeltOn spellE (sumF k) → SpeltBy spellE (exprF (suc k))
   unfolding exprF spellE
   expr-sound st ss ts e rest h =
       let i = then-inv (termF k ts) (λ t us. sumF k (one t) us) (e, rest) h in
       st ts (i .0) (i .1) (i .2) ∙ ss (one (i .0)) (i .1) e rest (i .3)
 
-  sum-sound : Sound spellT (termF k) → SoundOn spellE (sumF k) → SoundOn spellE (sumF (suc k))
+  sum-sound : SpeltBy spellT (termF k) → SpeltOn spellE (sumF k) → SpeltOn spellE (sumF (suc k))
   unfolding spellE
   sum-sound st ss acc ts e rest h = by (eqb (headNo ts) 6) (eqb (headNo ts) 7) refl refl
     where
@@ -65,13 +65,13 @@ module _ (k : ℕ) where
           behind (spellE acc) ts (spellT (i .0)) (i .1) Minus d (st (restOf ts) (i .0) (i .1) (i .2)) ∙ ss (minus acc (i .0)) (i .1) e rest (i .3)
       by false false x y = same spellE acc e ts rest (sym (sum-stop k ts acc (eqb-false (headNo ts) 6 x) (eqb-false (headNo ts) 7 y)) ∙ h)
 
-  term-sound : Sound spellF (factorF k) → SoundOn spellT (prodF k) → Sound spellT (termF (suc k))
+  term-sound : SpeltBy spellF (factorF k) → SpeltOn spellT (prodF k) → SpeltBy spellT (termF (suc k))
   unfolding exprF spellE
   term-sound sf sp ts t rest h =
       let i = then-inv (factorF k ts) (λ f us. prodF k (lone f) us) (t, rest) h in
       sf ts (i .0) (i .1) (i .2) ∙ sp (lone (i .0)) (i .1) t rest (i .3)
 
-  prod-sound : Sound spellF (factorF k) → SoundOn spellT (prodF k) → SoundOn spellT (prodF (suc k))
+  prod-sound : SpeltBy spellF (factorF k) → SpeltOn spellT (prodF k) → SpeltOn spellT (prodF (suc k))
   unfolding spellE
   prod-sound sf sp acc ts t rest h = by (eqb (headNo ts) 8) refl
     where
@@ -102,13 +102,13 @@ closed-sound e us a rest = by (eqb (headNo us) 5) refl
     by false x g = impossible (a, rest) g
 
 module _ (k : ℕ) where
-  factor-sound : Sound spellA (atomF k) → Sound spellF (factorF (suc k))
+  factor-sound : SpeltBy spellA (atomF k) → SpeltBy spellF (factorF (suc k))
   unfolding exprF
   factor-sound sa ts f rest h =
       let i = then-inv (atomF k ts) maybeSquared (f, rest) h in
       sa ts (i .0) (i .1) (i .2) ∙ squared-sound (i .0) (i .1) f rest (i .3)
 
-  atom-sound : Sound spellE (exprF k) → Sound spellA (atomF (suc k))
+  atom-sound : SpeltBy spellE (exprF k) → SpeltBy spellA (atomF (suc k))
   unfolding exprF spellE
   atom-sound se ts a rest = by (eqb (headNo ts) 1) (eqb (headNo ts) 2) (eqb (headNo ts) 4) refl refl refl
     where
@@ -126,12 +126,12 @@ module _ (k : ℕ) where
       by false false false x y z g = impossible (a, rest) g
 
 record AllSound (k : ℕ) : Type 0 where
-  soundE : Sound spellE (exprF k)
-  soundS : SoundOn spellE (sumF k)
-  soundT : Sound spellT (termF k)
-  soundP : SoundOn spellT (prodF k)
-  soundF : Sound spellF (factorF k)
-  soundA : Sound spellA (atomF k)
+  soundE : SpeltBy spellE (exprF k)
+  soundS : SpeltOn spellE (sumF k)
+  soundT : SpeltBy spellT (termF k)
+  soundP : SpeltOn spellT (prodF k)
+  soundF : SpeltBy spellF (factorF k)
+  soundA : SpeltBy spellA (atomF k)
 
 all-sound : (k : ℕ) → AllSound k
 unfolding exprF
@@ -152,7 +152,7 @@ all-sound (suc k) = let s = all-sound k in record {
   soundA = atom-sound k (s .soundE);
 }
 
-pub sound : (k : ℕ) → Sound spellE (exprF k)
+pub sound : (k : ℕ) → SpeltBy spellE (exprF k)
 sound k = all-sound k .soundE
 
 -- ---- complete

@@ -17,7 +17,7 @@ use Rattle.sheet.specs.declared.Token.the-variants.{Fixed}
 use Rattle.sheet.specs.declared.Sign.{Sign}
 use Rattle.sheet.specs.declared.Sign.the-variants.{AtMost, Below, AtLeast, Above, Equal, Differ}
 use Rattle.sheet.proofs.Heads.{behind}
-use Rattle.sheet.proofs.Spelling.{impossible, then-inv, same, Sound, EndE, sound, complete}
+use Rattle.sheet.proofs.Spelling.{impossible, then-inv, same, SpeltBy, EndE, sound, complete}
 
 -- a sign's mark is read as the sign, and stands for it
 sign-back : (s : Sign) → signOf (tokenNo (Fixed (markFor s))) ≡ s
@@ -75,7 +75,7 @@ behind-sound k l us c rest = by (leb 10 (headNo us)) (leb (headNo us) 15) refl r
     by true false x y g = impossible (c, rest) g
     by false q x y g = impossible (c, rest) g
 
-comparison-sound : (k : ℕ) → Sound spellC (comparisonF k)
+comparison-sound : (k : ℕ) → SpeltBy spellC (comparisonF k)
 unfolding comparisonF
 comparison-sound k ts c rest h =
     let i = then-inv (exprF k ts) _ (c, rest) h in
@@ -116,7 +116,7 @@ spell-all m c (d ∷ ds) = rw (spell-all m d ds)
 joined : (ts us vs ws : List Token) → us ≡ vs ++ ws → ts ++ us ≡ (ts ++ vs) ++ ws
 joined ts us vs ws e = ap (λ (xs : List Token). ts ++ xs) e ∙ sym (append-assoc ts vs ws)
 
-more-sound : (m : Mark) (k : ℕ) → Sound (spellMore m) (moreF k (tokenNo (Fixed m)))
+more-sound : (m : Mark) (k : ℕ) → SpeltBy (spellMore m) (moreF k (tokenNo (Fixed m)))
 unfolding moreF spellMore
 more-sound m zero ts cs rest h = impossible (cs, rest) h
 more-sound m (suc k) ts cs rest h = by (eqb (headNo ts) n) refl (more-sound m k) h
@@ -124,7 +124,7 @@ more-sound m (suc k) ts cs rest h = by (eqb (headNo ts) n) refl (more-sound m k)
     n : ℕ
     n = tokenNo (Fixed m)
 
-    by : (p : Bool) → eqb (headNo ts) n ≡ p → Sound (spellMore m) (moreF k n)
+    by : (p : Bool) → eqb (headNo ts) n ≡ p → SpeltBy (spellMore m) (moreF k n)
         → cond p (andThen (comparisonF k (restOf ts)) (λ c us. andThen (moreF k n us) (λ ds vs. some (c ∷ ds, vs)))) (some ([], ts)) ≡ some (cs, rest)
         → ts ≡ spellMore m cs ++ rest
     by true x more g =
@@ -140,7 +140,7 @@ more-sound m (suc k) ts cs rest h = by (eqb (headNo ts) n) refl (more-sound m k)
 abbrev pub spellPair : Mark → Comparison × List Comparison → List Token
 spellPair m p = spellAll m (p .0) (p .1)
 
-pub all-sound : (m : Mark) (k : ℕ) → Sound (spellPair m) (allF k (tokenNo (Fixed m)))
+pub all-sound : (m : Mark) (k : ℕ) → SpeltBy (spellPair m) (allF k (tokenNo (Fixed m)))
 unfolding allF
 all-sound m k ts p rest h =
     let i = then-inv (comparisonF k ts) _ (p, rest) h in

@@ -15,11 +15,12 @@ use Rattle.whole.specs.Lists.{AllOf}
 use Rattle.sheet.specs.Tokens.{tokensOf}
 use Rattle.sheet.specs.Grammar.{Comparison, Line, ranged, default, must, when, spellAll, signed, spellLine}
 use Rattle.sheet.specs.Reading.{tokenNo, payload, restOf, headNo, Read, whole, allF, signedOf, isSigned, readRange, asMust, asWhen, thenOf, readLine}
+use Rattle.sheet.specs.inner.Contents.{Proper}
 use Rattle.sheet.specs.declared.Mark.the-variants.{Range, Must, If, Then, And, Or}
 use Rattle.sheet.specs.declared.Token.{Token}
 use Rattle.sheet.specs.declared.Token.the-variants.{Number, Negative, Name, Fixed, Bad}
 use Rattle.sheet.proofs.Heads.{mark-above, is-name, headed}
-use Rattle.sheet.proofs.Pieces.{NotMinusZero, tokens-fine}
+use Rattle.sheet.proofs.Contents.{proper-tokens}
 use Rattle.sheet.proofs.Spelling.{impossible, EndE}
 use Rattle.sheet.proofs.SpellingComparisons.{all-sound, mark-ends, all-complete}
 
@@ -32,9 +33,9 @@ signed-is : (z : ℤ) → isSigned (signed z) ≡ true
 signed-is (pos n) = refl
 signed-is (negsuc n) = refl
 
-signed-spelt : (t : Token) → NotMinusZero t → isSigned t ≡ true → t ≡ signed (signedOf t)
+signed-spelt : (t : Token) → Proper t → isSigned t ≡ true → t ≡ signed (signedOf t)
 signed-spelt (Number n) f h = refl
-signed-spelt (Negative zero) f h = absurd (f refl)
+signed-spelt (Negative zero) f h = absurd (omega (arith, f .0))
 signed-spelt (Negative (suc n)) f h = ap (λ (k : ℕ). Negative (suc k)) (omega arith)
 signed-spelt (Name n) f h = absurd (true≢false (sym h))
 signed-spelt (Fixed m) f h =
@@ -46,7 +47,7 @@ range-read : (n : ℕ) (low high : ℤ) → readRange (Name n ∷ signed low ∷
 unfolding readRange
 range-read n low high = rw (signed-is low, signed-is high, signed-back low, signed-back high)
 
-range-spelt : (ts : List Token) → AllOf NotMinusZero ts → (l : Line) → readRange ts ≡ some l → Fixed Range ∷ ts ≡ spellLine l
+range-spelt : (ts : List Token) → AllOf Proper ts → (l : Line) → readRange ts ≡ some l → Fixed Range ∷ ts ≡ spellLine l
 unfolding readRange spellLine
 range-spelt [] f l h = impossible l h
 range-spelt (n ∷ []) f l h = by (eqb (tokenNo n) 2) refl h
@@ -119,12 +120,12 @@ when-spelt k ts l h = by (allF k 20 ts) refl h
     by none x g = impossible l g
     by (some p) x g = on p (eqb (headNo (p .1)) 19) refl x g
 
-rest-fine : (ts : List Token) → AllOf NotMinusZero ts → AllOf NotMinusZero (restOf ts)
-rest-fine [] f = tt
-rest-fine (t ∷ ts) f = f .1
+rest-proper : (ts : List Token) → AllOf Proper ts → AllOf Proper (restOf ts)
+rest-proper [] f = tt
+rest-proper (t ∷ ts) f = f .1
 
 -- what is read is spelt by its tree
-pub spelt-read : (ts : List Token) → AllOf NotMinusZero ts → (l : Line) → readLine ts ≡ some l → ts ≡ spellLine l
+pub spelt-read : (ts : List Token) → AllOf Proper ts → (l : Line) → readLine ts ≡ some l → ts ≡ spellLine l
 unfolding readLine
 spelt-read ts f l = by (eqb (headNo ts) 16) (eqb (headNo ts) 17) (eqb (headNo ts) 18) refl refl refl
   where
@@ -137,7 +138,7 @@ spelt-read ts f l = by (eqb (headNo ts) 16) (eqb (headNo ts) 17) (eqb (headNo ts
     by : (p q r : Bool) → eqb (headNo ts) 16 ≡ p → eqb (headNo ts) 17 ≡ q → eqb (headNo ts) 18 ≡ r
         → cond p (readRange us) (cond q (asMust (whole (allF k 21 us))) (cond r (thenOf k (allF k 20 us)) none)) ≡ some l
         → ts ≡ spellLine l
-    by true q r x y z g = headed ts Range (eqb-true (headNo ts) 16 x) ∙ range-spelt us (rest-fine ts f) l g
+    by true q r x y z g = headed ts Range (eqb-true (headNo ts) 16 x) ∙ range-spelt us (rest-proper ts f) l g
     by false true r x y z g = headed ts Must (eqb-true (headNo ts) 17 y) ∙ must-spelt k us l g
     by false false true x y z g = headed ts If (eqb-true (headNo ts) 18 z) ∙ when-spelt k us l g
     by false false false x y z g = impossible l g
@@ -172,7 +173,7 @@ spells-one t u h = let e : readLine (spellLine t) ≡ readLine (spellLine u) = a
 
 -- a line of text is read as a tree exactly if it is the tree's spelling
 pub reads-exactly : (l : List ℕ) (t : Line) → (readLine (tokensOf l) ≡ some t) ↔ (tokensOf l ≡ spellLine t)
-reads-exactly l t = (spelt-read (tokensOf l) (tokens-fine l) t, (λ e. ap readLine e ∙ read-spelt t))
+reads-exactly l t = (spelt-read (tokensOf l) (proper-tokens l) t, (λ e. ap readLine e ∙ read-spelt t))
 
 -- a line of text that is not read is the spelling of no tree
 pub not-read : (l : List ℕ) → readLine (tokensOf l) ≡ none → (t : Line) → tokensOf l ≡ spellLine t → ⊥

@@ -11,7 +11,7 @@ use lib.Signed.{leZ, ltZ}
 use Rattle.whole.specs.Lists.{OneOf}
 use Rattle.whole.specs.Ranges.{In, range}
 use Rattle.sheet.specs.Grammar.{Comparison, Line, ranged, default, must, when}
-use Rattle.sheet.specs.Meaning.{Assignment, valueE, Compares, Right, ObeysLine}
+use Rattle.sheet.specs.Meaning.{Assignment, valueE, Compares, ComparisonHolds, ObeysLine}
 use Rattle.sheet.specs.declared.Sign.{Sign}
 use Rattle.sheet.specs.declared.Sign.the-variants.{AtMost, Below, AtLeast, Above, Equal, Differ}
 
@@ -50,7 +50,7 @@ eqZ-refl : (a : ℤ) → T (eqZ a a)
 eqZ-refl (pos n) = eqb-refl n
 eqZ-refl (negsuc n) = eqb-refl n
 
-eqZ-right : (a b : ℤ) → T (eqZ a b) ↔ (a ≡ b)
+pub eqZ-right : (a b : ℤ) → T (eqZ a b) ↔ (a ≡ b)
 eqZ-right a b = (to a b, (λ e. rw (← e) (eqZ-refl a)))
   where
     to : (x y : ℤ) → T (eqZ x y) → x ≡ y
@@ -70,10 +70,10 @@ compares-right Above a b = ((λ h. record { lt = h }), (λ h. h .lt))
 compares-right Equal a b = eqZ-right a b
 compares-right Differ a b = not-right (eqZ a b) (eqZ-right a b)
 
-pub is-right : (v : Assignment) (c : Comparison) → T (isRight v c) ↔ Right v c
+pub is-right : (v : Assignment) (c : Comparison) → T (isRight v c) ↔ ComparisonHolds v c
 is-right v c = compares-right (c .sign) (valueE v (c .left)) (valueE v (c .right))
 
-and-right : (p q : Bool) → T (p && q) ↔ (T p × T q)
+pub and-right : (p q : Bool) → T (p && q) ↔ (T p × T q)
 and-right true q = ((λ h. (tt, h)), (λ h. h .1))
 and-right false q = ((λ h. absurd h), (λ h. h .0))
 
@@ -99,8 +99,8 @@ any-right f Q i (c ∷ cs) = either (f c) (anyOf f cs) (i c) (any-right f Q i cs
 pub obeys-line : (top : ℕ) (v : Assignment) (l : Line) → T (obeysLine top v l) ↔ ObeysLine top v l
 obeys-line top v (ranged n low high) = in-right low high (v n)
 obeys-line top v (default n) = in-right (pos 0) (pos top) (v n)
-obeys-line top v (must d ds) = either false (anyOf (isRight v) (d ∷ ds)) ((λ h. h), (λ h. h)) (any-right (isRight v) (Right v) (is-right v) (d ∷ ds))
+obeys-line top v (must d ds) = either false (anyOf (isRight v) (d ∷ ds)) ((λ h. h), (λ h. h)) (any-right (isRight v) (ComparisonHolds v) (is-right v) (d ∷ ds))
 obeys-line top v (when c cs d ds) =
     either (anyOf (λ x. not (isRight v x)) (c ∷ cs)) (anyOf (isRight v) (d ∷ ds))
-    (any-right (λ x. not (isRight v x)) (λ x. ¬ Right v x) (λ x. not-right (isRight v x) (is-right v x)) (c ∷ cs))
-    (any-right (isRight v) (Right v) (is-right v) (d ∷ ds))
+    (any-right (λ x. not (isRight v x)) (λ x. ¬ ComparisonHolds v x) (λ x. not-right (isRight v x) (is-right v x)) (c ∷ cs))
+    (any-right (isRight v) (ComparisonHolds v) (is-right v) (d ∷ ds))

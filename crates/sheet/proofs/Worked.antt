@@ -1,179 +1,82 @@
--- Worked lines, each from its text: the numbers that it compares at some values of the names, and whether it is obeyed; and lines that are not
--- of the forms. They hold by computing, so that an edit of the spelling or of the meaning is refused here.
-use mathlib.Core.Path.{_≡_, refl}
-use mathlib.Core.Bool.{Bool, true, false, cond, _&&_, Bool·beq}
-use mathlib.Core.List.{List, [], _∷_, _++_, map}
+-- The worked lines pass by computing: each is read, its numbers are compared, and whether it is obeyed is tested; the tests are right.
+use mathlib.Core.Path.{_≡_, refl, ap₂}
+use mathlib.Core.Bool.{Bool, true, false, _&&_, Bool·beq}
+use mathlib.Core.List.{List, [], _∷_, map}
 use mathlib.Core.Option.{Option, none, some}
-use Prim.Native.Nat.{ℕ}
-use Prim.Native.Char.{code}
+use mathlib.Core.Logic.{_↔_}
 use Prim.Native.String.{String}
-use Prim.Native.String as text
-use lib.Dec.{eqb}
-use lib.IntN.{ℤ, pos, negℤ}
+use lib.Dec.{T}
+use lib.IntN.{ℤ}
+use Rattle.whole.specs.Lists.{AllOf}
+use Rattle.sheet.specs.Text.{bytes}
 use Rattle.sheet.specs.Tokens.{piecesOf, suffixOf, digitsOf, digitFirst, numberOf, keyOf, allLower, markOf, minusFirst, tokenOf, tokensOf}
-use Rattle.sheet.specs.Grammar.{Comparison, Line, ranged, default, must, when}
+use Rattle.sheet.specs.Grammar.{Line}
 use Rattle.sheet.specs.Reading.{exprF, comparisonF, moreF, allF, readRange, readLine}
-use Rattle.sheet.specs.Meaning.{Assignment, valueE}
-use Rattle.sheet.proofs.Truth.{eqZ, obeysLine}
+use Rattle.sheet.specs.Meaning.{valueE}
+use Rattle.sheet.specs.Worked.{Names, valuesIn, numbersOf, Case, says, unread, Truly, Passes, cases}
+use Rattle.sheet.proofs.SpellingLines.{reads-exactly, not-read}
+use Rattle.sheet.proofs.Truth.{eqZ, eqZ-right, and-right, obeysLine, obeys-line}
 
--- a text's bytes
-abbrev pub bytes : String → List ℕ
-bytes text.[] = []
-bytes (text._∷_ c s) = code c ∷ bytes s
-
--- some names, each with its value; any other name is 0
-abbrev pub Names : Type 0
-Names = List (String × ℤ)
-
-abbrev pub valuesIn : Names → Assignment
-valuesIn [] n = pos 0
-valuesIn (p ∷ ps) n = cond (eqb n (keyOf 0 (bytes (p .0)))) (p .1) (valuesIn ps n)
-
--- the numbers that a line compares, in its order: the ends of its range, or both sides of each comparison
-abbrev pub sides : Assignment → List Comparison → List ℤ
-sides v [] = []
-sides v (c ∷ cs) = valueE v (c .left) ∷ valueE v (c .right) ∷ sides v cs
-
-abbrev pub numbersOf : Assignment → Line → List ℤ
-numbersOf v (ranged n low high) = low ∷ high ∷ []
-numbersOf v (default n) = []
-numbersOf v (must d ds) = sides v (d ∷ ds)
-numbersOf v (when c cs d ds) = sides v (c ∷ cs) ++ sides v (d ∷ ds)
-
-abbrev pub sameNumbers : List ℤ → List ℤ → Bool
+-- ---- the tests
+abbrev sameNumbers : List ℤ → List ℤ → Bool
 sameNumbers [] [] = true
 sameNumbers [] (b ∷ bs) = false
 sameNumbers (a ∷ xs) [] = false
 sameNumbers (a ∷ xs) (b ∷ bs) = eqZ a b && sameNumbers xs bs
 
--- a line with the values of its names: the numbers that it compares, and whether it is obeyed; or a line that is not of the forms
-pub data Case : Type 0 where
-  says : String → Names → List ℤ → Bool → Case
-  unread : String → Case
-
-abbrev pub saying : Names → List ℤ → Bool → Option Line → Bool
+abbrev saying : Names → List ℤ → Bool → Option Line → Bool
 saying ns zs b none = false
 saying ns zs b (some l) = sameNumbers (numbersOf (valuesIn ns) l) zs && Bool·beq (obeysLine 1_000_000 (valuesIn ns) l) b
 
-abbrev pub isNone : Option Line → Bool
+abbrev isNone : Option Line → Bool
 isNone none = true
 isNone (some l) = false
 
-abbrev pub passes : Case → Bool
+abbrev passes : Case → Bool
 passes (says s ns zs b) = saying ns zs b (readLine (tokensOf (bytes s)))
 passes (unread s) = isNone (readLine (tokensOf (bytes s)))
 
-abbrev pub all : List Bool → Bool
+abbrev all : List Bool → Bool
 all [] = true
 all (b ∷ bs) = b && all bs
 
--- the values of the names w and h
-abbrev pub at : ℤ → ℤ → Names
-at w h = ("w", w) ∷ ("h", h) ∷ []
+-- ---- they are right
+same-numbers : (xs ys : List ℤ) → T (sameNumbers xs ys) → xs ≡ ys
+same-numbers [] [] h = refl
+same-numbers [] (b ∷ bs) h = absurd h
+same-numbers (a ∷ xs) [] h = absurd h
+same-numbers (a ∷ xs) (b ∷ bs) h =
+    let k = and-right (eqZ a b) (sameNumbers xs bs) .0 h in
+    ap₂ (λ (z : ℤ) (zs : List ℤ). z ∷ zs) (eqZ-right a b .0 (k .0)) (same-numbers xs bs (k .1))
 
--- a sign, at a left side below, at and above the right one
-abbrev pub sign : String → Bool → Bool → Bool → List Case
-sign s b e a =
-    let l = text._++_ "must w " (text._++_ s " h") in
-    says l (at (pos 1) (pos 2)) (pos 1 ∷ pos 2 ∷ []) b
-    ∷ says l (at (pos 2) (pos 2)) (pos 2 ∷ pos 2 ∷ []) e
-    ∷ says l (at (pos 3) (pos 2)) (pos 3 ∷ pos 2 ∷ []) a
-    ∷ []
+truly : {A : Type 0} (o b : Bool) → T o ↔ A → T (Bool·beq o b) → Truly b A
+truly true true i h = i .0 tt
+truly true false i h = absurd h
+truly false true i h = absurd h
+truly false false i h = λ a. i .1 a
 
-abbrev pub signs : List Case
-signs =
-    sign "<=" true true false
-    ++ sign "<" true false false
-    ++ sign ">=" false true true
-    ++ sign ">" false false true
-    ++ sign "=" false true false
-    ++ sign "!=" true false true
+said : (s : String) (ns : Names) (zs : List ℤ) (b : Bool) (o : Option Line) → readLine (tokensOf (bytes s)) ≡ o → T (saying ns zs b o) → Passes (says s ns zs b)
+said s ns zs b none e h = absurd h
+said s ns zs b (some l) e h =
+    let k = and-right (sameNumbers (numbersOf (valuesIn ns) l) zs) (Bool·beq (obeysLine 1_000_000 (valuesIn ns) l) b) .0 h in
+    (l, reads-exactly (bytes s) l .0 e, same-numbers (numbersOf (valuesIn ns) l) zs (k .0), truly (obeysLine 1_000_000 (valuesIn ns) l) b (obeys-line 1_000_000 (valuesIn ns) l) (k .1))
 
--- values: equal ranks group to the left, products before sums, squares before products
-abbrev pub values : List Case
-values =
-    says "must 3 != 3" [] (pos 3 ∷ pos 3 ∷ []) false
-    ∷ says "must 10 - 4 - 3 = 3" [] (pos 3 ∷ pos 3 ∷ []) true
-    ∷ says "must 10 - ( 4 - 3 ) = 9" [] (pos 9 ∷ pos 9 ∷ []) true
-    ∷ says "must 2 + 3 * 4 = 14" [] (pos 14 ∷ pos 14 ∷ []) true
-    ∷ says "must ( 2 + 3 ) ^2 = 25" [] (pos 25 ∷ pos 25 ∷ []) true
-    ∷ says "must 2 * 3 ^2 = 18" [] (pos 18 ∷ pos 18 ∷ []) true
-    ∷ says "must ( 1 + 2 ) * ( 7 - 3 ) = 12" [] (pos 12 ∷ pos 12 ∷ []) true
-    ∷ says "must 3 - 10 < ( 3 - 10 ) ^2" [] (negℤ (pos 7) ∷ pos 49 ∷ []) true
-    ∷ says "must w * h = 35" (at (pos 5) (pos 7)) (pos 35 ∷ pos 35 ∷ []) true
-    ∷ says "must h - w * w - h = 0 - w ^2" (at (pos 5) (pos 7)) (negℤ (pos 25) ∷ negℤ (pos 25) ∷ []) true
-    ∷ []
+not-spelt : (s : String) (o : Option Line) → readLine (tokensOf (bytes s)) ≡ o → T (isNone o) → Passes (unread s)
+not-spelt s none e h = not-read (bytes s) e
+not-spelt s (some l) e h = absurd h
 
--- numbers, their units, and the longest names
-abbrev pub numbers : List Case
-numbers =
-    says "must 2K + 3M = 3002000" [] (pos 3002000 ∷ pos 3002000 ∷ []) true
-    ∷ says "must 1000G = 1000000000000" [] (pos 1000000000000 ∷ pos 1000000000000 ∷ []) true
-    ∷ says "must 0 = 0K" [] (pos 0 ∷ pos 0 ∷ []) true
-    ∷ says "must abcdefgh < 9" (("abcdefgh", pos 8) ∷ []) (pos 8 ∷ pos 9 ∷ []) true
-    ∷ []
+pass : (c : Case) → T (passes c) → Passes c
+pass (says s ns zs b) h = said s ns zs b (readLine (tokensOf (bytes s))) refl h
+pass (unread s) h = not-spelt s (readLine (tokensOf (bytes s))) refl h
 
--- rules: one D true, or one C false
-abbrev pub rules : List Case
-rules =
-    says "must w = 6 or h = 7" (at (pos 5) (pos 7)) (pos 5 ∷ pos 6 ∷ pos 7 ∷ pos 7 ∷ []) true
-    ∷ says "must w = 6 or h = 8" (at (pos 5) (pos 7)) (pos 5 ∷ pos 6 ∷ pos 7 ∷ pos 8 ∷ []) false
-    ∷ says "if w = 5 and h = 7 then w = h" (at (pos 5) (pos 7)) (pos 5 ∷ pos 5 ∷ pos 7 ∷ pos 7 ∷ pos 5 ∷ pos 7 ∷ []) false
-    ∷ says "if w = 5 and h = 8 then w = h" (at (pos 5) (pos 7)) (pos 5 ∷ pos 5 ∷ pos 7 ∷ pos 8 ∷ pos 5 ∷ pos 7 ∷ []) true
-    ∷ says "if w = 5 then h = 8 or h = 7" (at (pos 5) (pos 7)) (pos 5 ∷ pos 5 ∷ pos 7 ∷ pos 8 ∷ pos 7 ∷ pos 7 ∷ []) true
-    ∷ []
+all-pass : (cs : List Case) → T (all (map passes cs)) → AllOf Passes cs
+all-pass [] h = tt
+all-pass (c ∷ cs) h = let k = and-right (passes c) (all (map passes cs)) .0 h in (pass c (k .0), all-pass cs (k .1))
 
--- ranges, with both ends; `range NAME` is 0 to 1,000,000
-abbrev pub ranges : List Case
-ranges =
-    says "range w -5 3" (at (negℤ (pos 5)) (pos 0)) (negℤ (pos 5) ∷ pos 3 ∷ []) true
-    ∷ says "range w -5 3" (at (negℤ (pos 6)) (pos 0)) (negℤ (pos 5) ∷ pos 3 ∷ []) false
-    ∷ says "range w -5 3" (at (pos 3) (pos 0)) (negℤ (pos 5) ∷ pos 3 ∷ []) true
-    ∷ says "range w -5 3" (at (pos 4) (pos 0)) (negℤ (pos 5) ∷ pos 3 ∷ []) false
-    ∷ says "range w 5 -3" (at (pos 0) (pos 0)) (pos 5 ∷ negℤ (pos 3) ∷ []) false
-    ∷ says "range w" (at (pos 0) (pos 0)) [] true
-    ∷ says "range w" (at (pos 1_000_000) (pos 0)) [] true
-    ∷ says "range w" (at (pos 1_000_001) (pos 0)) [] false
-    ∷ says "range w" (at (negℤ (pos 1)) (pos 0)) [] false
-    ∷ []
-
--- not of the forms
-abbrev pub unreads : List Case
-unreads =
-    unread "must x^2 < 3"
-    ∷ unread "must x ^2 ^2 < 3"
-    ∷ unread "must a < b < c"
-    ∷ unread "must ( a < b )"
-    ∷ unread "must ( a < b"
-    ∷ unread "must a + < b"
-    ∷ unread "must -3 < a"
-    ∷ unread "must a < b and c < d"
-    ∷ unread "must a"
-    ∷ unread "must"
-    ∷ unread "if a < b or c < d then a < c"
-    ∷ unread "if a < b"
-    ∷ unread "then a < b"
-    ∷ unread "a < b"
-    ∷ unread "range a - 5 3"
-    ∷ unread "range a -0 3"
-    ∷ unread "range a 3"
-    ∷ unread "range a 1 2 3"
-    ∷ unread "range 3"
-    ∷ unread "range if"
-    ∷ unread "range"
-    ∷ unread ""
-    ∷ unread "must  a < b"
-    ∷ unread " must a < b"
-    ∷ unread "must a < b "
-    ∷ unread "must 03 < a"
-    ∷ unread "must 1001G < a"
-    ∷ unread "must 1000000000001 < a"
-    ∷ unread "must 3k < a"
-    ∷ unread "must A < b"
-    ∷ unread "must abcdefghi < a"
-    ∷ []
-
--- all pass
-pub worked : all (map passes (values ++ numbers ++ signs ++ rules ++ ranges ++ unreads)) ≡ true
+-- all tests hold
+tested : T (all (map passes cases))
 unfolding piecesOf suffixOf digitsOf digitFirst numberOf keyOf allLower markOf minusFirst tokenOf tokensOf exprF comparisonF moreF allF readRange readLine valueE
-worked = refl
+tested = tt
+
+pub worked : AllOf Passes cases
+worked = all-pass cases tested

@@ -1,12 +1,13 @@
 -- The grammar of lines as trees, and how a tree is spelt in tokens: document 01, "Sheets". A line is of the forms exactly if it is the
--- spelling of a tree; that no line spells two is proved in proofs/SpellingLines.antt.
+-- spelling of a tree; that no line spells two stands in Promises.antt.
 use mathlib.Core.List.{List, [], _∷_, _++_}
 use Prim.Native.Nat.{ℕ, suc}
 use lib.IntN.{ℤ, pos, negsuc}
 use Rattle.sheet.specs.declared.Mark.{Mark}
-use Rattle.sheet.specs.declared.Mark.the-variants.{Open, Close, Plus, Minus, Times, Square, AtMost, Below, AtLeast, Above, Equal, Differ, Range, Must, If, Then, And, Or}
+use Rattle.sheet.specs.declared.Mark.the-variants.{Open, Close, Plus, Minus, Times, Square, AtMost, Below, AtLeast, Above, Equal, Differ}
+use Rattle.sheet.specs.declared.Mark.the-variants.{Range, Must, If, Then, And, Or}
 use Rattle.sheet.specs.declared.Token.{Token}
-use Rattle.sheet.specs.declared.Token.the-variants.{Number, Negative, Name, Fixed, Bad}
+use Rattle.sheet.specs.declared.Token.the-variants.{Number, Negative, Name, Fixed}
 use Rattle.sheet.specs.declared.Sign.{Sign}
 use Rattle.sheet.specs.declared.Sign.the-variants as sign
 

@@ -5,4 +5,6 @@ pub mod Grammar
 pub mod Reading
 pub mod Meaning
 pub mod Depth
+pub mod Worked
+pub mod Promises
 pub mod inner

@@ -1,9 +1,11 @@
 -- The lines of a text: document 01, "Sheets", and the call that hands back the stretch of a line.
+use mathlib.Core.Path.{_≡_}
 use mathlib.Core.Bool.{Bool, cond, _||_}
 use mathlib.Core.List.{List, [], _∷_}
 use Prim.Native.Nat.{ℕ, zero, suc, _+_}
 use lib.Dec.{eqb, ltb}
 use lib.ListN.{length, getD}
+use denote.Ref.{RefT}
 use Rattle.sheet.specs.Text.{word}
 use Rattle.sheet.specs.declared.Stretch.{Stretch}
 
@@ -39,3 +41,11 @@ spanOf text k =
     cond (noLine text k)
     (record { start = length text; end = length text })
     (record { start = startOf (linesOf text) k; end = startOf (linesOf text) k + length (lineOf text k) })
+
+-- a part of a lent text starts at this place of it
+abbrev pub startsAt : RefT (List ℕ) → ℕ → RefT (List ℕ) → Type 0
+startsAt text place part = (part .ptr .0 ≡ text .ptr .0) × (part .ptr .1 ≡ text .ptr .1 + place)
+
+-- a part of a lent text is line k of it: the line's bytes, at the place where they stand
+abbrev pub IsLineOf : RefT (List ℕ) → ℕ → RefT (List ℕ) → Type 0
+IsLineOf text k part = (part .now ≡ lineOf (text .now) k) × startsAt text (spanOf (text .now) k .start) part

@@ -7,7 +7,8 @@ use lib.IntN.{ℤ, pos, _+ℤ_, _-ℤ_, _*ℤ_}
 use lib.Signed.{_≤ℤ_, _<ℤ_}
 use Rattle.whole.specs.Lists.{AllOf, OneOf}
 use Rattle.whole.specs.Ranges.{In, range}
-use Rattle.sheet.specs.Grammar.{Expr, one, plus, minus, Term, lone, times, Factor, bare, squared, Atom, number, name, bracket, Comparison, Line, ranged, default, must, when}
+use Rattle.sheet.specs.Grammar.{Expr, one, plus, minus, Term, lone, times, Factor, bare, squared, Atom, number, name, bracket}
+use Rattle.sheet.specs.Grammar.{Comparison, Line, ranged, default, must, when}
 use Rattle.sheet.specs.declared.Sign.{Sign}
 use Rattle.sheet.specs.declared.Sign.the-variants.{AtMost, Below, AtLeast, Above, Equal, Differ}
 
@@ -44,12 +45,12 @@ Compares Equal a b = a ≡ b
 Compares Differ a b = ¬ (a ≡ b)
 
 -- a comparison is true
-abbrev pub Right : Assignment → Comparison → Type 0
-Right v c = Compares (c .sign) (valueE v (c .left)) (valueE v (c .right))
+abbrev pub ComparisonHolds : Assignment → Comparison → Type 0
+ComparisonHolds v c = Compares (c .sign) (valueE v (c .left)) (valueE v (c .right))
 
 -- a rule asks that one C is false or one D is true
 abbrev pub Met : Assignment → List Comparison → List Comparison → Type 0
-Met v cs ds = OneOf (λ c. ¬ Right v c) cs ⊎ OneOf (Right v) ds
+Met v cs ds = OneOf (λ c. ¬ ComparisonHolds v c) cs ⊎ OneOf (ComparisonHolds v) ds
 
 -- a range line asks that the value is in the range, `range NAME` meaning 0 to the default's top
 abbrev pub ObeysLine : ℕ → Assignment → Line → Type 0

@@ -1,15 +1,16 @@
--- Reading a line: the tree that its tokens spell, if there is one. That reading finds just the tree that is spelt is proved in
--- proofs/SpellingLines.antt. The number that each reading starts with bounds how deep it goes; `readLine` gives enough for every line.
-use mathlib.Core.Bool.{Bool, true, false, cond, _&&_, _||_}
+-- Reading a line: the tree that its tokens spell, if there is one. That reading finds just the tree that is spelt stands in Promises.antt.
+-- The number that each reading starts with bounds how deep it goes; `readLine` gives enough for every line.
+use mathlib.Core.Bool.{Bool, cond, _&&_, _||_}
 use mathlib.Core.List.{List, [], _∷_}
 use mathlib.Core.Option.{Option, none, some}
 use Prim.Native.Nat.{ℕ, zero, suc, _+_, _-_, _*_}
 use lib.Dec.{eqb, leb}
 use lib.IntN.{ℤ, pos, negsuc}
 use lib.ListN.{length}
-use Rattle.sheet.specs.Grammar.{Expr, one, plus, minus, Term, lone, times, Factor, bare, squared, Atom, number, name, bracket, Comparison, Line, ranged, default, must, when}
-use Rattle.sheet.specs.declared.Mark.{Mark}
-use Rattle.sheet.specs.declared.Mark.the-variants.{Open, Close, Plus, Minus, Times, Square, AtMost, Below, AtLeast, Above, Equal, Differ, Range, Must, If, Then, And, Or}
+use Rattle.sheet.specs.Grammar.{Expr, one, plus, minus, Term, lone, times, Factor, bare, squared, Atom, number, name, bracket}
+use Rattle.sheet.specs.Grammar.{Comparison, Line, ranged, default, must, when}
+use Rattle.sheet.specs.declared.Mark.the-variants.{Open, Close, Plus, Minus, Times, Square, AtMost, Below, AtLeast, Above, Equal, Differ}
+use Rattle.sheet.specs.declared.Mark.the-variants.{Range, Must, If, Then, And, Or}
 use Rattle.sheet.specs.declared.Token.{Token}
 use Rattle.sheet.specs.declared.Token.the-variants.{Number, Negative, Name, Fixed, Bad}
 use Rattle.sheet.specs.declared.Sign.{Sign}

@@ -1,14 +1,17 @@
 -- What the pieces of a line are: document 01, "Sheets". Tokens are separated by exactly one space; a token is a number with its value, a name,
 -- or one of the fixed marks. A name is its letters as one number.
+use mathlib.Core.Path.{_≡_}
 use mathlib.Core.Bool.{Bool, true, false, cond, _&&_}
 use mathlib.Core.List.{List, [], _∷_, map}
-use Prim.Native.Nat.{ℕ, zero, suc, _+_, _-_, _*_}
+use Prim.Native.Nat.{ℕ, zero, suc, _+_, _-_, _*_, _≤_, _<_}
+use Prim.Native.String.{String}
 use lib.Dec.{leb, ltb, eqb}
 use lib.ListN.{length}
 use Rattle.sheet.specs.Lines.{withFirst}
-use Rattle.sheet.specs.Text.{word}
+use Rattle.sheet.specs.Text.{word, bytes}
 use Rattle.sheet.specs.declared.Mark.{Mark}
-use Rattle.sheet.specs.declared.Mark.the-variants.{Open, Close, Plus, Minus, Times, Square, AtMost, Below, AtLeast, Above, Equal, Differ, Range, Must, If, Then, And, Or}
+use Rattle.sheet.specs.declared.Mark.the-variants.{Open, Close, Plus, Minus, Times, Square, AtMost, Below, AtLeast, Above, Equal, Differ}
+use Rattle.sheet.specs.declared.Mark.the-variants.{Range, Must, If, Then, And, Or}
 use Rattle.sheet.specs.declared.Value.{Value}
 use Rattle.sheet.specs.declared.Value.the-variants.{Is, Not}
 use Rattle.sheet.specs.declared.Token.{Token}
@@ -70,7 +73,28 @@ unfoldable pub allLower : List ℕ → Bool
 allLower [] = true
 allLower (b ∷ bs) = leb (word "a") b && (leb b (word "z") && allLower bs)
 
--- the fixed marks
+-- the fixed marks as they are written
+abbrev pub textOf : Mark → String
+textOf Open = "("
+textOf Close = ")"
+textOf Plus = "+"
+textOf Minus = "-"
+textOf Times = "*"
+textOf Square = "^2"
+textOf AtMost = "<="
+textOf Below = "<"
+textOf AtLeast = ">="
+textOf Above = ">"
+textOf Equal = "="
+textOf Differ = "!="
+textOf Range = "range"
+textOf Must = "must"
+textOf If = "if"
+textOf Then = "then"
+textOf And = "and"
+textOf Or = "or"
+
+-- the mark that a number stands for
 unfoldable pub markOf : ℕ → Token
 markOf k =
     cond (eqb k (word "(")) (Fixed Open)
@@ -103,6 +127,13 @@ orElse Bad u = u
 -- a name: 1 to 8 lower-case letters
 abbrev pub asName : List ℕ → Token
 asName w = cond (ltb 0 (length w) && allLower w) (Name (keyOf 0 w)) Bad
+
+-- what a name is: 1 to 8 lower-case letters, none of the marks
+pub record IsName (w : List ℕ) : Type 0 where
+  pub some : 0 < length w
+  pub short : length w ≤ 8
+  pub lower : allLower w ≡ true
+  pub unmarked : (m : Mark) → ¬ (w ≡ bytes (textOf m))
 
 -- a mark, or a name that is none of the marks
 abbrev pub wordOf : List ℕ → Token

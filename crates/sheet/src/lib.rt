@@ -6,7 +6,7 @@ pub mod range;
 pub mod tokens;
 
 ghost use mathlib.Core.Path.{_≡_};
-ghost use Rattle.sheet.specs.Lines.{spanOf, lineOf};
+ghost use Rattle.sheet.specs.Lines.{spanOf, IsLineOf};
 
 // A stretch of a text: from start up to end.
 pub struct Stretch {
@@ -100,9 +100,9 @@ pub fn line_span(text: &[u8], line: usize) -> Stretch
     none
 }
 
-// Line `line` of a text, without its LF; for line 0 or a missing line, the empty stretch at the text's end.
+// Line `line` of a text, without its LF, as the part of the text where it stands; for line 0 or a missing line, the empty stretch at the text's end.
 pub fn line_at(text: &[u8], line: usize) -> &[u8]
-    ensures { λ r. ⌜ now r ≡ lineOf (now (text .entry)) line ⌝ }
+    ensures { λ r. ⌜ IsLineOf (text .entry) line r ⌝ }
 {
     let s = line_span(text, line);
     let start = s.start;

@@ -72,7 +72,7 @@ pub fn step_at(line: &[u8], at: usize) -> Step
 
 // Inner: the first of the tokens from a place on, and the place of the others.
 pub fn next(line: &[u8], at: usize) -> Step
-    ensures { λ r. ⌜ (r .token ≡ headOf (tokensFrom (now (line .entry)) at)) × (tokensFrom (now (line .entry)) (r .next) ≡ restOf (tokensFrom (now (line .entry)) at)) ⌝ }
+    ensures { λ r. ⌜ (r .token ≡ headOf (tokensFrom (now (line .entry)) at)) × (tokensFrom (now (line .entry)) (r .next) ≡ restOf (tokensFrom (now (line .entry)) at)) × (r ≡ stepAt (now (line .entry)) at) ⌝ }
 {
     step_at(line, at)
 }

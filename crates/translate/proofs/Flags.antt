@@ -12,12 +12,12 @@ use borrow.Author.Tests.{leb-true, leb-false, ltb-true, ltb-false, eqb-true, eqb
 use Rattle.sheet.specs.Grammar.{Expr, one, plus, minus, Term, lone, times, Factor, bare, squared, Atom, number, name, bracket, Comparison, Line, ranged, default, must, when}
 use Rattle.sheet.specs.declared.Sign.{Sign}
 use Rattle.sheet.specs.declared.Sign.the-variants.{AtMost, Below, AtLeast, Above, Equal, Differ}
-use Rattle.translate.specs.Plain.{Tree, constant, quantity, binary, square, placeOf, isIn, plainE, plainT, plainF, plainA, namedE, namedT, namedF, namedA, Asked, plainC, denied, asksOf}
-use Rattle.translate.specs.Translation.{gapOf, equal, equalities}
-use Rattle.translate.specs.Sheet.{Sheet}
-use Rattle.translate.specs.Grounds.{namedAll, badNames}
+use Rattle.meaning.specs.Plain.{Tree, constant, quantity, binary, square, placeOf, isIn, plainE, plainT, plainF, plainA, namedE, namedT, namedF, namedA, Asked, plainC, denied, asksOf}
+use Rattle.meaning.specs.Translation.{gapOf, equal, equalities}
+use Rattle.meaning.specs.Draft.{Draft}
+use Rattle.meaning.specs.Grounds.{namedAll, badNames}
 use Rattle.translate.specs.inner.Emission.{emit, Listing, moreEquals, listed, listAll}
-use Rattle.translate.specs.declared.Making.{Making}
+use Rattle.translate.specs.declared.parts.Making.{Making}
 
 -- ---- tests
 pub or-assoc : (a b c : Bool) → ((a || b) || c) ≡ (a || (b || c))
@@ -136,7 +136,7 @@ IsRule (must d ds) = Unit {0}
 IsRule (when c cs d ds) = Unit {0}
 
 -- 25 is met by a rule exactly if it names a quantity that is not declared
-pub strange-is : (s : Sheet) (x : Line) → IsRule x → strangeAll (length (s .names)) (asksOf (s .names) x) ≡ badNames s x
+pub strange-is : (s : Draft) (x : Line) → IsRule x → strangeAll (length (s .names)) (asksOf (s .names) x) ≡ badNames s x
 unfolding asksOf
 strange-is s (ranged n low high) r = absurd r
 strange-is s (default n) r = absurd r
@@ -153,7 +153,7 @@ strange-is s (when c cs d ds) r =
     (ap not (ap₂ _&&_ (named-all (s .names) (c ∷ cs)) (named-all (s .names) (d ∷ ds)) ∙ not-or (strangeAll n xs) (strangeAll n ys))
     ∙ not-not (strangeAll n xs || strangeAll n ys))
 
-pub unknown-is : (s : Sheet) (x : Line) (a : Listing) → IsRule x → a .making .unknown ≡ false → listAll (length (s .names)) (asksOf (s .names) x) a .making .unknown ≡ badNames s x
+pub unknown-is : (s : Draft) (x : Line) (a : Listing) → IsRule x → a .making .unknown ≡ false → listAll (length (s .names)) (asksOf (s .names) x) a .making .unknown ≡ badNames s x
 unknown-is s x a r e =
     unknown-all (length (s .names)) (asksOf (s .names) x) a
     ∙ ap (λ (z : Bool). z || strangeAll (length (s .names)) (asksOf (s .names) x)) e

@@ -1,59 +1,41 @@
--- What is proved of the definitions, and what the proofs of several functions use.
-pub mod Lists
-pub mod Opened
-pub mod Tests
-pub mod Names
-pub mod Plain
-pub mod Flat
-pub mod Pieces
-pub mod Trees
-pub mod Rules
-pub mod Asks
-pub mod Same
-pub mod Kept
-pub mod Faultless
-pub mod Reading
-pub mod Carried
-pub mod Sensible
-pub mod Demand3
-pub mod Limits
-pub mod Steps
-pub mod Sizes
-pub mod Known
-pub mod Room
-pub mod Judged
-pub mod Fits
-pub mod Fronts
-pub mod Puts
+-- What the proofs of several functions use, in reading order.
+
+-- lists written from the front
+pub mod ListFronts
+pub mod StoredNumbers
+pub mod PutBehind
+pub mod Filling
+-- what a tree writes: counts, flags, ranges, and its exact piece
+pub mod TreeWrites
 pub mod Flags
-pub mod Spanned
-pub mod HelperSizes
-pub mod Emission
-pub mod Wide
-pub mod Written
-pub mod RuleEmission
-pub mod RuleSheet
+pub mod HelperRanges
+pub mod WideFlag
+pub mod ExactPiece
+-- what a rule and a line leave in the lists
+pub mod RuleWrites
+pub mod RuleDraft
 pub mod RuleListed
-pub mod RuleStored
-pub mod RangeStored
-pub mod Fills
-pub mod Texts
-pub mod Versions
-pub mod Stores
-pub mod KeptRanges
-pub mod Helpers
-pub mod Readings
-pub mod Makings
-pub mod Literals
-pub mod Listings
-pub mod Rulings
-pub mod Declaring
-pub mod Appending
-pub mod Ruling
-pub mod Lining
-pub mod Walking
-pub mod Handing
-pub mod Opening
+pub mod RuleHeld
+pub mod RangeHeld
+-- what the code comes to, from the first bytes to the caller's lists
+pub mod BadBytes
+pub mod VersionLine
+pub mod ComputableRanges
+pub mod HelperCode
+pub mod FirstTokens
+pub mod ExpressionCode
+pub mod SignCode
+pub mod ComparisonCode
+pub mod RuleCode
+pub mod ClauseCode
+pub mod RangeLineCode
+pub mod RuleLineCode
+pub mod LineCode
+pub mod WalkCode
+pub mod AcceptCode
+pub mod TextCode
+-- the public call: its contract read back, and the promises
+pub mod AcceptedFronts
+pub mod AnswerMeans
 pub mod Once
-pub mod TreeGrounds
-pub mod Grounds
+pub mod Promises

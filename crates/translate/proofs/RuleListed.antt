@@ -12,19 +12,20 @@ use lib.Seq.{take-take, take-at}
 use borrow.Author.Tests.{ltb-true, ltb-false, lt-ltb, le-ltb}
 use Rattle.whole.specs.declared.Range.{Range}
 use Rattle.sheet.specs.Grammar.{Line}
-use Rattle.translate.specs.Translation.{first, equalities, sizes}
-use Rattle.translate.specs.Lists.{rangeList, primitiveList, literalList}
-use Rattle.translate.specs.Sheet.{Sheet, quantitiesIn, rule, after}
-use Rattle.translate.specs.Grounds.{badNames, anyBeyond}
+use Rattle.meaning.specs.Translation.{first, equalities}
+use Rattle.meaning.specs.Lists.{rangeList, primitiveList, literalList}
+use Rattle.meaning.specs.Draft.{Draft, quantitiesIn, rule, after}
+use Rattle.meaning.specs.Grounds.{badNames, anyBeyond}
 use Rattle.translate.specs.inner.Emission.{Listing, listAll}
 use Rattle.translate.specs.inner.Stored.{Stored}
-use Rattle.translate.specs.declared.Progress.{Progress}
-use Rattle.translate.proofs.Flat.{ranges-append, ranges-length}
+use Rattle.translate.specs.declared.parts.Progress.{Progress}
+use Rattle.meaning.proofs.FlatLists.{ranges-append, ranges-length}
 use Rattle.translate.proofs.Flags.{IsRule, SameEqualities, strangeAll, strange-is, unknown-is, equals-is}
-use Rattle.translate.proofs.HelperSizes.{clause-few}
-use Rattle.translate.proofs.Written.{Ready}
-use Rattle.translate.proofs.RuleEmission.{Long, Noted, used-all, long-all, wide-all, noted-all}
-use Rattle.translate.proofs.RuleSheet.{Proper, asked, added, firstOf, secondOf, rule-ranges, rule-primitives, rule-helpers, rule-quantities, after-rule, some-size, proper-rule}
+use Rattle.meaning.proofs.Definitions.{sizes}
+use Rattle.meaning.proofs.TreeSizes.{clause-few}
+use Rattle.translate.proofs.ExactPiece.{Ready}
+use Rattle.translate.proofs.RuleWrites.{Long, Noted, used-all, long-all, wide-all, noted-all}
+use Rattle.translate.proofs.RuleDraft.{Proper, asked, added, firstOf, secondOf, rule-ranges, rule-primitives, rule-helpers, rule-quantities, after-rule, some-size, proper-rule}
 
 -- before the first comparison: the sheet so far, no literal, no flag
 abbrev pub startOf : Progress → List ℤ → List ℤ → List ℤ → List ℤ → Listing
@@ -40,11 +41,11 @@ startOf g rs ps fs ss =
     }
 
 -- a rule listed behind that
-abbrev pub listedOf : Sheet → Line → Progress → List ℤ → List ℤ → List ℤ → List ℤ → Listing
+abbrev pub listedOf : Draft → Line → Progress → List ℤ → List ℤ → List ℤ → List ℤ → Listing
 listedOf s x g rs ps fs ss = listAll (length (s .names)) (asked s x) (startOf g rs ps fs ss)
 
 -- where no ground is met: the fronts are the sheet's with the rule, the literals those of its clauses, and all have room
-pub record Added (s : Sheet) (x : Line) (g : Progress) (b : Listing) : Type 0 where
+pub record Added (s : Draft) (x : Line) (g : Progress) (b : Listing) : Type 0 where
   pub demands : SameEqualities (b .equals) (equalities (asked s x))
   pub quantities : b .making .used ≡ quantitiesIn (rule s x)
   pub few : b .making .used ≤ 128
@@ -61,7 +62,7 @@ pub record Added (s : Sheet) (x : Line) (g : Progress) (b : Listing) : Type 0 wh
   pub literals-room : g .literals + 2 * b .count ≤ 512
 
 -- what a listed rule tells
-pub record Listed (s : Sheet) (x : Line) (g : Progress) (a b : Listing) : Type 0 where
+pub record Listed (s : Draft) (x : Line) (g : Progress) (a b : Listing) : Type 0 where
   pub unknown : b .making .unknown ≡ badNames s x
   pub demands : SameEqualities (b .equals) (equalities (asked s x))
   pub wide : badNames s x ≡ false → b .making .wide ≡ anyBeyond (added s x .ranges)
@@ -77,7 +78,7 @@ declared-front l k ds ws h e =
     ∙ ap (take (2 * length ds)) (e ∙ ranges-append ds ws)
     ∙ take-at (rangeList ds) (rangeList ws) (2 * length ds) (ranges-length ds)
 
-module _ {s : Sheet} {g : Progress} {rs ps ns ls : List ℤ} {keys : List ℕ} (stored : Stored s g rs ps ns ls keys) (fs ss : List ℤ) (long : length rs ≡ 256) (longer : length ps ≡ 1024) where
+module _ {s : Draft} {g : Progress} {rs ps ns ls : List ℤ} {keys : List ℕ} (stored : Stored s g rs ps ns ls keys) (fs ss : List ℤ) (long : length rs ≡ 256) (longer : length ps ≡ 1024) where
   start-ready : Ready (s .declared) (s .declared ++ s .made .ranges) (s .made .primitives) (quantitiesIn s) rs ps (startOf g rs ps fs ss .making)
   start-ready =
       let f = rw (stored .quantities) at (stored .range-front) in
@@ -98,7 +99,7 @@ module _ {s : Sheet} {g : Progress} {rs ps ns ls : List ℤ} {keys : List ℕ} (
   start-noted = record { ready = start-ready; count = refl; alike = refl; firsts = refl; seconds = refl }
 
 -- ---- a rule listed
-module _ {s : Sheet} {g : Progress} {rs ps ns ls : List ℤ} {keys : List ℕ} (stored : Stored s g rs ps ns ls keys) (proper : Proper s) (x : Line) (fs ss : List ℤ) (long : length rs ≡ 256) (longer : length ps ≡ 1024) where
+module _ {s : Draft} {g : Progress} {rs ps ns ls : List ℤ} {keys : List ℕ} (stored : Stored s g rs ps ns ls keys) (proper : Proper s) (x : Line) (fs ss : List ℤ) (long : length rs ≡ 256) (longer : length ps ≡ 1024) where
   wide-rule : strangeAll (length (s .names)) (asked s x) ≡ false → listedOf s x g rs ps fs ss .making .wide ≡ anyBeyond (added s x .ranges)
   wide-rule =
       let a = startOf g rs ps fs ss in
@@ -115,7 +116,7 @@ module _ {s : Sheet} {g : Progress} {rs ps ns ls : List ℤ} {keys : List ℕ} (
   noted-rule : strangeAll (length (s .names)) (asked s x) ≡ false → anyBeyond (added s x .ranges) ≡ false → quantitiesIn s + sizes (asked s x) ≤ 128 → 768 ≤ length fs → 768 ≤ length ss → Noted (s .declared) (s .declared ++ s .made .ranges ++ added s x .ranges) (s .made .primitives ++ added s x .primitives) (quantitiesIn s + sizes (asked s x)) (firstOf s x) (secondOf s x) (listedOf s x g rs ps fs ss)
   noted-rule e far u i j =
       let a = startOf g rs ps fs ss in
-      let c = clause-few first (asked s x) (quantitiesIn s) in
+      let c = clause-few first (quantitiesIn s) (asked s x) in
       subst (λ (n : ℕ). strangeAll n (asked s x) ≡ false → Noted (s .declared) (s .declared ++ s .made .ranges ++ added s x .ranges) (s .made .primitives ++ added s x .primitives) (quantitiesIn s + sizes (asked s x)) (firstOf s x) (secondOf s x) (listAll n (asked s x) a)) (stored .alike)
       (λ f. noted-all (s .declared) (proper .good) (asked s x) (start-noted stored fs ss long longer) f far u (omega (arith, proper .primitives)) (omega arith) (omega arith) (omega arith))
       e
@@ -124,7 +125,7 @@ module _ {s : Sheet} {g : Progress} {rs ps ns ls : List ℤ} {keys : List ℕ} (
   added-rule r e far u i j =
       let h : quantitiesIn s + sizes (asked s x) ≤ 128 = omega (arith, used-rule) in
       let n = noted-rule e far h i j in
-      let c = clause-few first (asked s x) (quantitiesIn s) in
+      let c = clause-few first (quantitiesIn s) (asked s x) in
       let l = ap length (rule-primitives s x) in
       record {
         demands = equals-is (length (s .names)) (asked s x) (startOf g rs ps fs ss) refl;
@@ -150,7 +151,7 @@ limit n m h = go (ltb 128 m) refl
     go true e = lt-ltb 128 n (omega (arith, ltb-true 128 m e))
     go false e = le-ltb 128 n (omega (arith, ltb-false 128 m e))
 
-pub rule-listed : {s : Sheet} {g : Progress} {rs ps ns ls : List ℤ} {keys : List ℕ} → Stored s g rs ps ns ls keys → Proper s → (x : Line) → IsRule x → (fs ss : List ℤ) → length rs ≡ 256 → length ps ≡ 1024 → 768 ≤ length fs → 768 ≤ length ss → Listed s x g (startOf g rs ps fs ss) (listedOf s x g rs ps fs ss)
+pub rule-listed : {s : Draft} {g : Progress} {rs ps ns ls : List ℤ} {keys : List ℕ} → Stored s g rs ps ns ls keys → Proper s → (x : Line) → IsRule x → (fs ss : List ℤ) → length rs ≡ 256 → length ps ≡ 1024 → 768 ≤ length fs → 768 ≤ length ss → Listed s x g (startOf g rs ps fs ss) (listedOf s x g rs ps fs ss)
 rule-listed {s} {g} {rs} {ps} stored proper x r fs ss long longer i j =
     let a = startOf g rs ps fs ss in
     let u = used-rule stored proper x fs ss long longer in

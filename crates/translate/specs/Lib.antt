@@ -1,9 +1,5 @@
-pub mod Plain
-pub mod Translation
-pub mod Lists
-pub mod Sheet
-pub mod Grounds
+-- The public call: its contract, what its answer means, what is promised; and what only the code needs.
 pub mod Translate
-pub mod Refused
-pub mod Demand3
+pub mod Meaning
+pub mod Promises
 pub mod inner

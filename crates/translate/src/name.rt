@@ -2,7 +2,7 @@
 ghost use mathlib.Core.Path.{_≡_};
 ghost use Prim.Native.Nat.{_*_, _≤_};
 ghost use lib.ListN.{length, replicate};
-ghost use Rattle.translate.specs.Lists.{padded, nameBytes};
+ghost use Rattle.meaning.specs.Lists.{padded, nameBytes};
 ghost use Rattle.translate.specs.Translate.{filled};
 ghost use Rattle.translate.specs.inner.Letters.{Letters};
 

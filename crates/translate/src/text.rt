@@ -1,6 +1,6 @@
 // The text of a sheet as a whole: its bytes (20) and its first line (21).
 ghost use mathlib.Core.Path.{_≡_};
-ghost use Rattle.translate.specs.Grounds.{badByte, anyBadByte, badText, versionOf, firstLine};
+ghost use Rattle.meaning.specs.Grounds.{badByte, anyBadByte, badText, versionOf, firstLine};
 use sheet::Value;
 use sheet::piece::digit_at;
 use sheet::piece::number;

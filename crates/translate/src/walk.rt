@@ -1,18 +1,18 @@
 // The lines of a sheet behind the first, read into lists of full size, and those handed to the caller.
 ghost use lib.ListN.{drop};
 ghost use Rattle.sheet.specs.Lines.{linesOf};
-ghost use Rattle.translate.specs.Sheet.{blank};
-ghost use Rattle.translate.specs.Grounds.{topOf, readLines, someDeclared};
+ghost use Rattle.meaning.specs.Draft.{blank};
+ghost use Rattle.meaning.specs.Grounds.{topOf, readLines, someDeclared};
 ghost use Rattle.translate.specs.inner.Stored.{Full, Standing, Lent, LinesRead, Accepts, Gives};
 use crate::Counts;
-use crate::Lined;
-use crate::Progress;
-use crate::Refusal;
 use crate::Translated;
-use crate::Walked;
 use crate::front::copy;
 use crate::line::read_line;
 use crate::name::write;
+use crate::parts::Lined;
+use crate::parts::Progress;
+use crate::parts::Walked;
+use meaning::Refusal;
 use sheet::line::line_end;
 
 // The lines from a place on, the first of them line 2: the first fault decides.

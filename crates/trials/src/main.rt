@@ -1,5 +1,6 @@
 // The comparisons of solve that the gate runs. Each group prints its name, its number of cases and its number of agreements; a
 // disagreement prints its case.
+mod pins;
 mod refusals;
 mod small;
 mod solving;
@@ -18,9 +19,25 @@ fn buffers() {
     refusals::compare(b"buffers after solve", &buffer[..n]);
 }
 
+// Problems whose sweeps were followed by hand.
+fn counted_problems() {
+    let mut buffer = io::large_buffer();
+    let n = cases::table::load(b"counted.txt", &mut buffer);
+    pins::compare(b"counted problems", &buffer[..n]);
+}
+
+// Problems with the answers of the second implementation.
+fn pinned_problems() {
+    let mut buffer = io::large_buffer();
+    let n = cases::table::load(b"pins.txt", &mut buffer);
+    pins::compare(b"pinned problems", &buffer[..n]);
+}
+
 // Runs every group.
 fn main() {
     solve_refusals();
     buffers();
     small::compare();
+    counted_problems();
+    pinned_problems();
 }

@@ -6,7 +6,7 @@ use native.Mathlib.Omega.{arith}
 use lib.IntN.{ℤ, pos, negsuc, negℤ, _+ℤ_, _-ℤ_, _*ℤ_}
 use lib.Signed.{_≤ℤ_, _<ℤ_}
 use Rattle.whole.specs.Numbers.{floorQ, ceilQ}
-use Rattle.whole.proofs.Kit.{ints, plus, minus, times, neg-P, neg-N, neg-times, suc-times, pred-times, *ℤ-mono, *ℤ-anti, lt-or-le}
+use Rattle.whole.proofs.Kit.{ints, plus, minus, times, neg-positive, neg-negative, neg-times, suc-times, pred-times, *ℤ-mono, *ℤ-anti, lt-or-le}
 
 -- q is a quotient of a by b rounded down: one step more goes past
 pub record Under (a b q : ℤ) : Type 0 where
@@ -90,8 +90,8 @@ turn a b q f =
     let e = neg-times q b in
     let n = negℤ q *ℤ b in
     record {
-      up = λ h. let x = f .up h in (omega (ints, neg-P a, neg-N a, neg-P (q *ℤ b), neg-N (q *ℤ b)), omega (ints, neg-P a, neg-N a, neg-P (q *ℤ b), neg-N (q *ℤ b), minus n b, plus (q *ℤ b) b));
-      down = λ h. let x = f .down h in (omega (ints, neg-P a, neg-N a, neg-P (q *ℤ b), neg-N (q *ℤ b)), omega (ints, neg-P a, neg-N a, neg-P (q *ℤ b), neg-N (q *ℤ b), minus n b, plus (q *ℤ b) b));
+      up = λ h. let x = f .up h in (omega (ints, neg-positive a, neg-negative a, neg-positive (q *ℤ b), neg-negative (q *ℤ b)), omega (ints, neg-positive a, neg-negative a, neg-positive (q *ℤ b), neg-negative (q *ℤ b), minus n b, plus (q *ℤ b) b));
+      down = λ h. let x = f .down h in (omega (ints, neg-positive a, neg-negative a, neg-positive (q *ℤ b), neg-negative (q *ℤ b)), omega (ints, neg-positive a, neg-negative a, neg-positive (q *ℤ b), neg-negative (q *ℤ b), minus n b, plus (q *ℤ b) b));
     }
 
 pub ceiling-over : (a b : ℤ) → Over a b (ceilQ a b)

@@ -1,26 +1,26 @@
--- The proof kit for whole numbers: `omega ints` decides linear facts on ℤ by the positive part P and the negative part N of each number.
+-- The proof kit for whole numbers: `omega ints` decides linear facts on ℤ by the positive part positivePart and the negative part negativePart of each number.
 use mathlib.Core.Path.{_≡_, refl, sym, ap, ap₂, subst, _∙_}
-use mathlib.Core.Logic.{_≢_, _⊎_, inl, inr, ⊎-elim}
+use mathlib.Core.Logic.{_⊎_, inl, inr, ⊎-elim}
 use mathlib.Core.Bool.{Bool, true, false, not, cond, _&&_}
 use Prim.Native.Nat.{ℕ, zero, suc, _+_, _-_, _*_, _/_, _%_, _≤_, _<_, _^_, min, max}
 use native.Mathlib.Omega.{arith}
-use lib.Dec.{lit≤, T, ltb, leb, ltb→lt, nltb→le, lt→ltb, le→leb, leb→le, nleb→lt}
+use lib.Dec.{T, ltb, leb, ltb→lt, nltb→le, lt→ltb, le→leb, leb→le, nleb→lt}
 use lib.IntN.{ℤ, pos, negsuc, negℤ, subℕ, natAbs, _+ℤ_, _-ℤ_, _*ℤ_}
 use lib.Signed.{mag, ltZ, leZ, _≤ℤ_, _<ℤ_, quotZ, remZ, shrZ, mag-shr, mag-rem, nonNeg, yes-nonNeg, pos-natAbs}
 use mir.Syntax.{w64}
 use mir.Val.{Fits, SFits, toZ, ofZ}
 use mir.Facts.{toZ-ofZ, fits-natAbs}
 use mir.ValLaws.{sfits-le}
-use Rattle.whole.specs.Numbers.{P, N, Near, minZ, maxZ}
-use native.Mathlib.Nat.{mul-le-mul-left, add-mul, mul-le-mul-right, sub-add-cancel, le-trans, div-mul-le-self, lt-div-mul-add, div-add-mod', div-le-self, zero-mul, lt-of-not-le, le-of-suc-le-suc, not-le-of-lt, mul-le-mul}
+use Rattle.whole.specs.Numbers.{positivePart, negativePart, Near, minZ, maxZ}
+use native.Mathlib.Nat.{mul-le-mul-left, add-mul, mul-le-mul-right, sub-add-cancel, div-mul-le-self, lt-div-mul-add, div-add-mod', div-le-self, lt-of-not-le, not-le-of-lt, mul-le-mul}
 
 cond-ind : (c : Bool) (x y : ℤ) (Q : ℤ → Type 0) → (T c → Q x) → (T (not c) → Q y) → Q (cond c x y)
 cond-ind true x y Q f g = f tt
 cond-ind false x y Q f g = g tt
 
-pub sub-parts : (a b : ℕ) → P (subℕ a b) + b ≡ a + N (subℕ a b)
+pub sub-parts : (a b : ℕ) → positivePart (subℕ a b) + b ≡ a + negativePart (subℕ a b)
 sub-parts a b =
-    cond-ind (ltb a b) (negsuc (b - suc a)) (pos (a - b)) (λ z. P z + b ≡ a + N z)
+    cond-ind (ltb a b) (negsuc (b - suc a)) (pos (a - b)) (λ z. positivePart z + b ≡ a + negativePart z)
     (λ t. less (ltb→lt a b t)) (λ t. more (nltb→le a b t))
   where
     less : a < b → 0 + b ≡ a + suc (b - suc a)
@@ -30,101 +30,101 @@ sub-parts a b =
     more h = omega arith
 
 -- one of the two is 0
-pub apart : (z : ℤ) → min (P z) (N z) ≡ 0
+pub apart : (z : ℤ) → min (positivePart z) (negativePart z) ≡ 0
 apart (pos n) = omega arith
 apart (negsuc n) = omega arith
 
-pub plus : (a b : ℤ) → P (a +ℤ b) + (N a + N b) ≡ (P a + P b) + N (a +ℤ b)
+pub plus : (a b : ℤ) → positivePart (a +ℤ b) + (negativePart a + negativePart b) ≡ (positivePart a + positivePart b) + negativePart (a +ℤ b)
 plus (pos a) (pos b) = omega arith
 plus (pos a) (negsuc b) = omega (arith, sub-parts a (suc b))
 plus (negsuc a) (pos b) = omega (arith, sub-parts b (suc a))
 plus (negsuc a) (negsuc b) = omega arith
 
-pub neg-P : (a : ℤ) → P (negℤ a) ≡ N a
-neg-P (pos zero) = refl
-neg-P (pos (suc n)) = refl
-neg-P (negsuc n) = refl
+pub neg-positive : (a : ℤ) → positivePart (negℤ a) ≡ negativePart a
+neg-positive (pos zero) = refl
+neg-positive (pos (suc n)) = refl
+neg-positive (negsuc n) = refl
 
-pub neg-N : (a : ℤ) → N (negℤ a) ≡ P a
-neg-N (pos zero) = refl
-neg-N (pos (suc n)) = refl
-neg-N (negsuc n) = refl
+pub neg-negative : (a : ℤ) → negativePart (negℤ a) ≡ positivePart a
+neg-negative (pos zero) = refl
+neg-negative (pos (suc n)) = refl
+neg-negative (negsuc n) = refl
 
-pub minus : (a b : ℤ) → P (a -ℤ b) + (N a + P b) ≡ (P a + N b) + N (a -ℤ b)
-minus a b = omega (arith, plus a (negℤ b), neg-P b, neg-N b)
+pub minus : (a b : ℤ) → positivePart (a -ℤ b) + (negativePart a + positivePart b) ≡ (positivePart a + negativePart b) + negativePart (a -ℤ b)
+minus a b = omega (arith, plus a (negℤ b), neg-positive b, neg-negative b)
 
-pub times-P : (a b : ℤ) → P (a *ℤ b) ≡ P a * P b + N a * N b
-times-P (pos a) (pos b) = omega arith
-times-P (pos a) (negsuc b) = omega (arith, neg-P (pos (a * suc b)))
-times-P (negsuc a) (pos b) = omega (arith, neg-P (pos (suc a * b)))
-times-P (negsuc a) (negsuc b) = omega arith
+pub times-positive : (a b : ℤ) → positivePart (a *ℤ b) ≡ positivePart a * positivePart b + negativePart a * negativePart b
+times-positive (pos a) (pos b) = omega arith
+times-positive (pos a) (negsuc b) = omega (arith, neg-positive (pos (a * suc b)))
+times-positive (negsuc a) (pos b) = omega (arith, neg-positive (pos (suc a * b)))
+times-positive (negsuc a) (negsuc b) = omega arith
 
-pub times-N : (a b : ℤ) → N (a *ℤ b) ≡ P a * N b + N a * P b
-times-N (pos a) (pos b) = omega arith
-times-N (pos a) (negsuc b) = omega (arith, neg-N (pos (a * suc b)))
-times-N (negsuc a) (pos b) = omega (arith, neg-N (pos (suc a * b)))
-times-N (negsuc a) (negsuc b) = omega arith
+pub times-negative : (a b : ℤ) → negativePart (a *ℤ b) ≡ positivePart a * negativePart b + negativePart a * positivePart b
+times-negative (pos a) (pos b) = omega arith
+times-negative (pos a) (negsuc b) = omega (arith, neg-negative (pos (a * suc b)))
+times-negative (negsuc a) (pos b) = omega (arith, neg-negative (pos (suc a * b)))
+times-negative (negsuc a) (negsuc b) = omega arith
 
 -- ---- the orders and equality
-le-to : (a b : ℤ) → T (leZ a b) → P a + N b ≤ P b + N a
+le-to : (a b : ℤ) → T (leZ a b) → positivePart a + negativePart b ≤ positivePart b + negativePart a
 le-to (pos a) (pos b) t = omega (arith, leb→le a b t)
 le-to (pos a) (negsuc b) t = absurd t
 le-to (negsuc a) (pos b) t = omega arith
 le-to (negsuc a) (negsuc b) t = omega (arith, leb→le b a t)
 
-pub to-le : (a b : ℤ) → a ≤ℤ b → P a + N b ≤ P b + N a
+pub to-le : (a b : ℤ) → a ≤ℤ b → positivePart a + negativePart b ≤ positivePart b + negativePart a
 to-le a b h = le-to a b (h .le)
 
-le-from : (a b : ℤ) → P a + N b ≤ P b + N a → T (leZ a b)
+le-from : (a b : ℤ) → positivePart a + negativePart b ≤ positivePart b + negativePart a → T (leZ a b)
 le-from (pos a) (pos b) h = le→leb a b (omega arith)
 le-from (pos a) (negsuc b) h = absurd (omega arith)
 le-from (negsuc a) (pos b) h = tt
 le-from (negsuc a) (negsuc b) h = le→leb b a (omega arith)
 
-pub from-le : (a b : ℤ) → P a + N b ≤ P b + N a → a ≤ℤ b
+pub from-le : (a b : ℤ) → positivePart a + negativePart b ≤ positivePart b + negativePart a → a ≤ℤ b
 from-le a b h = record { le = le-from a b h }
 
-lt-to : (a b : ℤ) → T (ltZ a b) → P a + N b < P b + N a
+lt-to : (a b : ℤ) → T (ltZ a b) → positivePart a + negativePart b < positivePart b + negativePart a
 lt-to (pos a) (pos b) t = omega (arith, ltb→lt a b t)
 lt-to (pos a) (negsuc b) t = absurd t
 lt-to (negsuc a) (pos b) t = omega arith
 lt-to (negsuc a) (negsuc b) t = omega (arith, ltb→lt b a t)
 
-pub to-lt : (a b : ℤ) → a <ℤ b → P a + N b < P b + N a
+pub to-lt : (a b : ℤ) → a <ℤ b → positivePart a + negativePart b < positivePart b + negativePart a
 to-lt a b h = lt-to a b (h .lt)
 
-lt-from : (a b : ℤ) → P a + N b < P b + N a → T (ltZ a b)
+lt-from : (a b : ℤ) → positivePart a + negativePart b < positivePart b + negativePart a → T (ltZ a b)
 lt-from (pos a) (pos b) h = lt→ltb a b (omega arith)
 lt-from (pos a) (negsuc b) h = absurd (omega arith)
 lt-from (negsuc a) (pos b) h = tt
 lt-from (negsuc a) (negsuc b) h = lt→ltb b a (omega arith)
 
-pub from-lt : (a b : ℤ) → P a + N b < P b + N a → a <ℤ b
+pub from-lt : (a b : ℤ) → positivePart a + negativePart b < positivePart b + negativePart a → a <ℤ b
 from-lt a b h = record { lt = lt-from a b h }
 
-pub to-eq : (a b : ℤ) → a ≡ b → P a + N b ≡ P b + N a
-to-eq a b e = subst (λ (z : ℤ). P a + N z ≡ P z + N a) e refl
+pub to-eq : (a b : ℤ) → a ≡ b → positivePart a + negativePart b ≡ positivePart b + negativePart a
+to-eq a b e = subst (λ (z : ℤ). positivePart a + negativePart z ≡ positivePart z + negativePart a) e refl
 
-pub from-eq : (a b : ℤ) → P a + N b ≡ P b + N a → a ≡ b
+pub from-eq : (a b : ℤ) → positivePart a + negativePart b ≡ positivePart b + negativePart a → a ≡ b
 from-eq (pos a) (pos b) h = ap pos (omega arith)
 from-eq (pos a) (negsuc b) h = absurd (omega arith)
 from-eq (negsuc a) (pos b) h = absurd (omega arith)
 from-eq (negsuc a) (negsuc b) h = ap negsuc (omega arith)
 
 -- ---- a test's outcome
-pub lt-true : (a b : ℤ) → ltZ a b ≡ true → P a + N b < P b + N a
+pub lt-true : (a b : ℤ) → ltZ a b ≡ true → positivePart a + negativePart b < positivePart b + negativePart a
 lt-true a b e = lt-to a b (subst T (sym e) tt)
 
-pub lt-false : (a b : ℤ) → ltZ a b ≡ false → P b + N a ≤ P a + N b
+pub lt-false : (a b : ℤ) → ltZ a b ≡ false → positivePart b + negativePart a ≤ positivePart a + negativePart b
 lt-false (pos a) (pos b) e = omega (arith, nltb→le a b (subst (λ (x : Bool). T (not x)) (sym e) tt))
 lt-false (pos a) (negsuc b) e = omega arith
 lt-false (negsuc a) (pos b) e = absurd (subst T e tt)
 lt-false (negsuc a) (negsuc b) e = omega (arith, nltb→le b a (subst (λ (x : Bool). T (not x)) (sym e) tt))
 
-pub le-true : (a b : ℤ) → leZ a b ≡ true → P a + N b ≤ P b + N a
+pub le-true : (a b : ℤ) → leZ a b ≡ true → positivePart a + negativePart b ≤ positivePart b + negativePart a
 le-true a b e = le-to a b (subst T (sym e) tt)
 
-pub le-false : (a b : ℤ) → leZ a b ≡ false → P b + N a < P a + N b
+pub le-false : (a b : ℤ) → leZ a b ≡ false → positivePart b + negativePart a < positivePart a + negativePart b
 le-false (pos a) (pos b) e = omega (arith, nleb→lt a b (subst (λ (x : Bool). T (not x)) (sym e) tt))
 le-false (pos a) (negsuc b) e = omega arith
 le-false (negsuc a) (pos b) e = absurd (subst T e tt)
@@ -146,29 +146,25 @@ is-false : (x : Bool) → (x ≡ true → ⊥) → x ≡ false
 is-false true f = absurd (f refl)
 is-false false f = refl
 
-pub true-lt : (a b : ℤ) → P a + N b < P b + N a → ltZ a b ≡ true
+pub true-lt : (a b : ℤ) → positivePart a + negativePart b < positivePart b + negativePart a → ltZ a b ≡ true
 true-lt a b h = is-true (ltZ a b) (lt-from a b h)
 
-pub true-le : (a b : ℤ) → P a + N b ≤ P b + N a → leZ a b ≡ true
+pub true-le : (a b : ℤ) → positivePart a + negativePart b ≤ positivePart b + negativePart a → leZ a b ≡ true
 true-le a b h = is-true (leZ a b) (le-from a b h)
 
-pub false-lt : (a b : ℤ) → P b + N a ≤ P a + N b → ltZ a b ≡ false
+pub false-lt : (a b : ℤ) → positivePart b + negativePart a ≤ positivePart a + negativePart b → ltZ a b ≡ false
 false-lt a b h = is-false (ltZ a b) (λ e. omega (arith, lt-true a b e))
 
-pub false-le : (a b : ℤ) → P b + N a < P a + N b → leZ a b ≡ false
+pub false-le : (a b : ℤ) → positivePart b + negativePart a < positivePart a + negativePart b → leZ a b ≡ false
 false-le a b h = is-false (leZ a b) (λ e. omega (arith, le-true a b e))
 
 -- ---- a signed number fits 64 bits
-pub fits-P : (z : ℤ) → SFits w64 z → P z < 2 ^ 63
-fits-P (pos n) h = h .sfits
-fits-P (negsuc n) h = omega arith
-
-pub fits-N : (z : ℤ) → SFits w64 z → N z ≤ 2 ^ 63
-fits-N (pos n) h = omega arith
-fits-N (negsuc n) h = h .sfits
+pub fits-negative : (z : ℤ) → SFits w64 z → negativePart z ≤ 2 ^ 63
+fits-negative (pos n) h = omega arith
+fits-negative (negsuc n) h = h .sfits
 
 -- -2^63 ≤ z < 2^63, as one statement, in which no part has to be 0
-pub from-fits : (z : ℤ) → max (suc (P z + P z)) (N z + N z) ≤ 2 ^ 63 + (P z + N z) → SFits w64 z
+pub from-fits : (z : ℤ) → max (suc (positivePart z + positivePart z)) (negativePart z + negativePart z) ≤ 2 ^ 63 + (positivePart z + negativePart z) → SFits w64 z
 from-fits (pos n) h = record { sfits = omega arith }
 from-fits (negsuc n) h = record { sfits = omega arith }
 
@@ -177,52 +173,26 @@ abbrev pub at : ℤ → ℤ
 at x = toZ w64 (ofZ w64 x)
 
 -- what the machine reads back from the bits of a number that fits
-pub read-is : (z : ℤ) → SFits w64 z → P (toZ w64 (ofZ w64 z)) + N z ≡ P z + N (toZ w64 (ofZ w64 z))
+pub read-is : (z : ℤ) → SFits w64 z → positivePart (toZ w64 (ofZ w64 z)) + negativePart z ≡ positivePart z + negativePart (toZ w64 (ofZ w64 z))
 read-is z h = to-eq _ _ (toZ-ofZ h)
-
--- the bits themselves, for `==` and `!=`
-pub bits : (z : ℤ) → SFits w64 z → ofZ w64 z + N z ≡ P z + 2 ^ 64 * min 1 (N z)
-bits (pos n) h = omega arith
-bits (negsuc n) h = rw min-one (two-parts n (h .sfits))
-  where
-    min-one : min 1 (suc n) ≡ 1
-    min-one = omega arith
-
-    two-parts : (k : ℕ) → k < 2 ^ 63 → (2 ^ 64 - suc k) + suc k ≡ 0 + 2 ^ 64 * 1
-    two-parts k h = sub-add-cancel (le-trans h (lit≤ tt))
 
 pub ruleset ints = (arith, to-le, from-le, to-lt, from-lt, to-eq, from-eq, lt-true, lt-false, le-true, le-false, true-lt, true-le, false-lt, false-le, read-is, from-fits)
 
 -- ---- order and ring laws
-pub +ℤ-mono : (a b c d : ℤ) → a ≤ℤ b → c ≤ℤ d → (a +ℤ c) ≤ℤ (b +ℤ d)
-+ℤ-mono a b c d h k = omega (ints, plus a c, plus b d)
-
-pub assoc : (a b c : ℤ) → (a +ℤ b) +ℤ c ≡ a +ℤ (b +ℤ c)
-assoc a b c = omega (ints, plus a b, plus b c, plus (a +ℤ b) c, plus a (b +ℤ c))
-
-pub ≤ℤ-trans : {a b c : ℤ} → a ≤ℤ b → b ≤ℤ c → a ≤ℤ c
-≤ℤ-trans {a} {b} {c} h k = omega ints
-
-pub <ℤ-trans : {a b c : ℤ} → a <ℤ b → b <ℤ c → a <ℤ c
-<ℤ-trans {a} {b} {c} h k = omega ints
-
-pub ≤ℤ-antisym : {a b : ℤ} → a ≤ℤ b → b ≤ℤ a → a ≡ b
-≤ℤ-antisym {a} {b} h k = omega ints
-
 -- both parts of a product, to be handed to `omega` as one entry
 pub record Times (a b : ℤ) : Type 0 where
-  pub up : P (a *ℤ b) ≡ P a * P b + N a * N b
-  pub down : N (a *ℤ b) ≡ P a * N b + N a * P b
+  pub up : positivePart (a *ℤ b) ≡ positivePart a * positivePart b + negativePart a * negativePart b
+  pub down : negativePart (a *ℤ b) ≡ positivePart a * negativePart b + negativePart a * positivePart b
 
 pub times : (a b : ℤ) → Times a b
-times a b = record { up = times-P a b; down = times-N a b }
+times a b = record { up = times-positive a b; down = times-negative a b }
 
 pub *ℤ-comm′ : (a b : ℤ) → a *ℤ b ≡ b *ℤ a
 *ℤ-comm′ a b = omega (ints, times a b, times b a)
 
 -- (x +ℤ y) times c, with the parts of the sum: the sum's law multiplied
-pub plus-times : (a b c : ℤ) → ((P (a +ℤ b) * P c + (N a * P c + N b * P c)) ≡ (P a * P c + P b * P c) + N (a +ℤ b) * P c) × ((P (a +ℤ b) * N c + (N a * N c + N b * N c)) ≡ (P a * N c + P b * N c) + N (a +ℤ b) * N c)
-plus-times a b c = (omega (arith, ap (λ (n : ℕ). n * P c) (plus a b)), omega (arith, ap (λ (n : ℕ). n * N c) (plus a b)))
+pub plus-times : (a b c : ℤ) → ((positivePart (a +ℤ b) * positivePart c + (negativePart a * positivePart c + negativePart b * positivePart c)) ≡ (positivePart a * positivePart c + positivePart b * positivePart c) + negativePart (a +ℤ b) * positivePart c) × ((positivePart (a +ℤ b) * negativePart c + (negativePart a * negativePart c + negativePart b * negativePart c)) ≡ (positivePart a * negativePart c + positivePart b * negativePart c) + negativePart (a +ℤ b) * negativePart c)
+plus-times a b c = (omega (arith, ap (λ (n : ℕ). n * positivePart c) (plus a b)), omega (arith, ap (λ (n : ℕ). n * negativePart c) (plus a b)))
 
 pub *ℤ-distr : (a b c : ℤ) → (a +ℤ b) *ℤ c ≡ a *ℤ c +ℤ b *ℤ c
 *ℤ-distr a b c = omega (ints, times (a +ℤ b) c, plus (a *ℤ c) (b *ℤ c), times a c, times b c, plus-times a b c)
@@ -242,9 +212,6 @@ made {m} {z} e f = let g : SFits w64 m = subst (SFits w64) (sym e) f in record {
 -- what an operand reads as: a parameter (`rd (c .fits .x)`), a call's result (`got (c .f .result) (c .f .ok)`), an element that was read (`got (getD s i (pos 0)) (c .x .given)`), a literal (`lit (pos 1)`), an earlier step (`h .is`), a loop's variable (`refl`)
 pub rd : {z : ℤ} → SFits w64 z → at z ≡ z
 rd f = toZ-ofZ f
-
-pub refits : {z : ℤ} → SFits w64 z → SFits w64 (at z)
-refits f = subst (SFits w64) (sym (toZ-ofZ f)) f
 
 pub got : (z : ℤ) → mag z < 2 ^ 63 → at z ≡ z
 got z h = toZ-ofZ (record { sfits = h })
@@ -272,51 +239,46 @@ remains {a = a} {b = b} h k f = made (ap₂ remZ h k) (sfits-le (mag-rem a b) f)
 
 -- ---- what halving and dividing do
 pub record Half (z : ℤ) : Type 0 where
-  pub low : 2 * P (shrZ z 2) + N z ≤ P z + 2 * N (shrZ z 2)
-  pub high : P z + 2 * N (shrZ z 2) ≤ 2 * P (shrZ z 2) + N z + 1
+  pub low : 2 * positivePart (shrZ z 2) + negativePart z ≤ positivePart z + 2 * negativePart (shrZ z 2)
+  pub high : positivePart z + 2 * negativePart (shrZ z 2) ≤ 2 * positivePart (shrZ z 2) + negativePart z + 1
 
 pub halves : (z : ℤ) → Half z
 halves (pos n) = omega arith
 halves (negsuc n) = omega arith
 
-neg-times-P : (x y : ℤ) → P (negℤ x *ℤ y) ≡ N x * P y + P x * N y
-neg-times-P x y = times-P (negℤ x) y ∙ ap₂ (λ (p n : ℕ). p * P y + n * N y) (neg-P x) (neg-N x)
+neg-times-positive : (x y : ℤ) → positivePart (negℤ x *ℤ y) ≡ negativePart x * positivePart y + positivePart x * negativePart y
+neg-times-positive x y = times-positive (negℤ x) y ∙ ap₂ (λ (p n : ℕ). p * positivePart y + n * negativePart y) (neg-positive x) (neg-negative x)
 
-neg-times-N : (x y : ℤ) → N (negℤ x *ℤ y) ≡ N x * N y + P x * P y
-neg-times-N x y = times-N (negℤ x) y ∙ ap₂ (λ (p n : ℕ). p * N y + n * P y) (neg-P x) (neg-N x)
+neg-times-negative : (x y : ℤ) → negativePart (negℤ x *ℤ y) ≡ negativePart x * negativePart y + positivePart x * positivePart y
+neg-times-negative x y = times-negative (negℤ x) y ∙ ap₂ (λ (p n : ℕ). p * negativePart y + n * positivePart y) (neg-positive x) (neg-negative x)
 
 -- the quotient times the divisor is between 0 and the dividend, and less than the divisor's size away from it
 pub record Quot (a b : ℤ) : Type 0 where
-  pub P-le : P (quotZ a b *ℤ b) ≤ P a
-  pub N-le : N (quotZ a b *ℤ b) ≤ N a
-  pub P-lt : P a < P (quotZ a b *ℤ b) + (P b + N b)
-  pub N-lt : N a < N (quotZ a b *ℤ b) + (P b + N b)
-  pub P-size : P (quotZ a b) ≤ P a + N a
-  pub N-size : N (quotZ a b) ≤ P a + N a
+  pub P-le : positivePart (quotZ a b *ℤ b) ≤ positivePart a
+  pub N-le : negativePart (quotZ a b *ℤ b) ≤ negativePart a
+  pub P-lt : positivePart a < positivePart (quotZ a b *ℤ b) + (positivePart b + negativePart b)
+  pub N-lt : negativePart a < negativePart (quotZ a b *ℤ b) + (positivePart b + negativePart b)
+  pub P-size : positivePart (quotZ a b) ≤ positivePart a + negativePart a
+  pub N-size : negativePart (quotZ a b) ≤ positivePart a + negativePart a
 
-pub quots : (a b : ℤ) → 0 < P b + N b → Quot a b
+pub quots : (a b : ℤ) → 0 < positivePart b + negativePart b → Quot a b
 quots (pos a) (pos b) h =
     let b< : 0 < b = omega arith in
     omega (arith, div-mul-le-self a b, lt-div-mul-add {a = a} b<, div-le-self a b)
 quots (pos a) (negsuc b) h =
     let b< : 0 < suc b = omega arith in
     let k = a / suc b in
-    omega (arith, div-mul-le-self a (suc b), lt-div-mul-add {a = a} b<, div-le-self a (suc b), neg-P (pos k), neg-N (pos k), neg-times-P (pos k) (negsuc b), neg-times-N (pos k) (negsuc b))
+    omega (arith, div-mul-le-self a (suc b), lt-div-mul-add {a = a} b<, div-le-self a (suc b), neg-positive (pos k), neg-negative (pos k), neg-times-positive (pos k) (negsuc b), neg-times-negative (pos k) (negsuc b))
 quots (negsuc a) (pos b) h =
     let b< : 0 < b = omega arith in
     let k = suc a / b in
-    omega (arith, div-mul-le-self (suc a) b, lt-div-mul-add {a = suc a} b<, div-le-self (suc a) b, neg-P (pos k), neg-N (pos k), neg-times-P (pos k) (pos b), neg-times-N (pos k) (pos b))
+    omega (arith, div-mul-le-self (suc a) b, lt-div-mul-add {a = suc a} b<, div-le-self (suc a) b, neg-positive (pos k), neg-negative (pos k), neg-times-positive (pos k) (pos b), neg-times-negative (pos k) (pos b))
 quots (negsuc a) (negsuc b) h =
     let b< : 0 < suc b = omega arith in
     let k = suc a / suc b in
     omega (arith, div-mul-le-self (suc a) (suc b), lt-div-mul-add {a = suc a} b<, div-le-self (suc a) (suc b), times (pos k) (negsuc b))
 
-pub nonzero : (b : ℤ) → (b ≡ pos 0 → ⊥) → 0 < P b + N b
-nonzero (pos zero) h = absurd (h refl)
-nonzero (pos (suc n)) h = omega arith
-nonzero (negsuc n) h = omega arith
-
-pub bits-nonzero : (b : ℤ) → SFits w64 b → 0 < P b + N b → 0 < ofZ w64 b
+pub bits-nonzero : (b : ℤ) → SFits w64 b → 0 < positivePart b + negativePart b → 0 < ofZ w64 b
 bits-nonzero (pos n) f h = omega arith
 bits-nonzero (negsuc n) f h = below-power n (f .sfits)
   where
@@ -331,32 +293,20 @@ pub suc-times : (q b : ℤ) → (q +ℤ pos 1) *ℤ b ≡ q *ℤ b +ℤ b
 suc-times q b = let e = *ℤ-distr q (pos 1) b in omega (ints, plus (q *ℤ b) (pos 1 *ℤ b), times (pos 1) b, plus (q *ℤ b) b)
 
 -- ---- the size
-pub natAbs-is : (z : ℤ) → natAbs z ≡ P z + N z
+pub natAbs-is : (z : ℤ) → natAbs z ≡ positivePart z + negativePart z
 natAbs-is (pos n) = omega arith
 natAbs-is (negsuc n) = omega arith
 
 pub natAbs-times : (a b : ℤ) → natAbs (a *ℤ b) ≡ natAbs a * natAbs b
 natAbs-times a b = natAbs-is (a *ℤ b) ∙ parts ∙ sym (ap₂ _*_ (natAbs-is a) (natAbs-is b))
   where
-    parts : P (a *ℤ b) + N (a *ℤ b) ≡ (P a + N a) * (P b + N b)
+    parts : positivePart (a *ℤ b) + negativePart (a *ℤ b) ≡ (positivePart a + negativePart a) * (positivePart b + negativePart b)
     parts = omega (arith, times a b)
 
--- a product with a factor 0
-pub kill : (x y : ℕ) → x ≡ 0 → x * y ≡ 0
-kill x y e = ap (λ (n : ℕ). n * y) e ∙ zero-mul y
-
 -- ---- squares
-pub square-N : (z : ℤ) → N (z *ℤ z) ≡ 0
-square-N (pos n) = refl
-square-N (negsuc n) = refl
-
-below-square : (n : ℕ) → n ≤ n * n
-below-square zero = omega arith
-below-square (suc n) = omega arith
-
-pub square-P : (z : ℤ) → P z ≤ P (z *ℤ z)
-square-P (pos n) = below-square n
-square-P (negsuc n) = omega arith
+pub square-negative : (z : ℤ) → negativePart (z *ℤ z) ≡ 0
+square-negative (pos n) = refl
+square-negative (negsuc n) = refl
 
 pub root-lt : (m n : ℕ) → m * m < n * n → m < n
 root-lt m n h = lt-of-not-le (λ (k : n ≤ m). not-le-of-lt h (mul-le-mul k k))
@@ -388,16 +338,8 @@ index-is z f h = ap (λ (x : ℤ). pos (natAbs x)) (toZ-ofZ f) ∙ pos-natAbs z 
 pub cast : {m z : ℤ} → Holds m z → pos 0 ≤ℤ z → T (nonNeg (at m)) × Fits w64 (natAbs (at m))
 cast {m} {z} h k = let e = h .is in index m (h .fits) (omega ints)
 
-pub cast-is : {m z : ℤ} → Holds m z → pos 0 ≤ℤ z → natAbs (at m) ≡ P z
+pub cast-is : {m z : ℤ} → Holds m z → pos 0 ≤ℤ z → natAbs (at m) ≡ positivePart z
 cast-is {m} {z} h k = ap natAbs (h .is) ∙ omega (ints, natAbs-is z, apart z)
-
--- `==` compares the bits
-pub bits-eq : {a b : ℤ} → SFits w64 a → SFits w64 b → ofZ w64 a ≡ ofZ w64 b → a ≡ b
-bits-eq {a} {b} f g e = sym (toZ-ofZ f) ∙ ap (toZ w64) e ∙ toZ-ofZ g
-
--- how far b is above a, as a number: a loop's measure
-abbrev pub gap : ℤ → ℤ → ℕ
-gap a b = (P b + N a) - (P a + N b)
 
 -- ---- a whole expression at once: `parts (v a ⊕ v b ⊗ v c)` is the fact that `omega` wants of  a +ℤ b *ℤ c
 infixl 6 _⊕_ _⊖_
@@ -416,18 +358,18 @@ den (a ⊗ b) = den a *ℤ den b
 
 abbrev mutual
   pub up : Ex → ℕ
-  up (v z) = P z
+  up (v z) = positivePart z
   up (a ⊕ b) = up a + up b
   up (a ⊖ b) = up a + dn b
   up (a ⊗ b) = up a * up b + dn a * dn b
 
   pub dn : Ex → ℕ
-  dn (v z) = N z
+  dn (v z) = negativePart z
   dn (a ⊕ b) = dn a + dn b
   dn (a ⊖ b) = dn a + up b
   dn (a ⊗ b) = up a * dn b + dn a * up b
 
-pub parts : (e : Ex) → P (den e) + dn e ≡ up e + N (den e)
+pub parts : (e : Ex) → positivePart (den e) + dn e ≡ up e + negativePart (den e)
 parts (v z) = omega arith
 parts (a ⊕ b) = omega (arith, plus (den a) (den b), parts a, parts b)
 parts (a ⊖ b) = omega (arith, minus (den a) (den b), parts a, parts b)
@@ -435,14 +377,11 @@ parts (a ⊗ b) =
     omega (
       arith,
       times (den a) (den b),
-      ap (λ (n : ℕ). n * P (den b)) (parts a),
-      ap (λ (n : ℕ). n * N (den b)) (parts a),
+      ap (λ (n : ℕ). n * positivePart (den b)) (parts a),
+      ap (λ (n : ℕ). n * negativePart (den b)) (parts a),
       ap (λ (n : ℕ). n * up a) (parts b),
       ap (λ (n : ℕ). n * dn a) (parts b),
     )
-
-pub *ℤ-assoc : (a b c : ℤ) → (a *ℤ b) *ℤ c ≡ a *ℤ (b *ℤ c)
-*ℤ-assoc a b c = omega (ints, parts ((v a ⊗ v b) ⊗ v c), parts (v a ⊗ (v b ⊗ v c)))
 
 -- ---- two orders multiplied: from a ≤ b and c ≤ d, that (b - a) * (d - c) is not negative
 pub rearrange : (p n q m : ℕ) → n ≤ p → m ≤ q → p * m + n * q ≤ p * q + n * m
@@ -451,8 +390,8 @@ rearrange p n q m h k = omega (arith, mul-le-mul-left (p - n) k, cut m, cut q)
     cut : (x : ℕ) → (p - n) * x + n * x ≡ p * x
     cut x = sym (add-mul (p - n) n x) ∙ ap (λ (y : ℕ). y * x) (sub-add-cancel h)
 
-pub cross : (a b c d : ℤ) → a ≤ℤ b → c ≤ℤ d → (P b + N a) * (P c + N d) + (P a + N b) * (P d + N c) ≤ (P b + N a) * (P d + N c) + (P a + N b) * (P c + N d)
-cross a b c d h k = rearrange (P b + N a) (P a + N b) (P d + N c) (P c + N d) (omega ints) (omega ints)
+pub cross : (a b c d : ℤ) → a ≤ℤ b → c ≤ℤ d → (positivePart b + negativePart a) * (positivePart c + negativePart d) + (positivePart a + negativePart b) * (positivePart d + negativePart c) ≤ (positivePart b + negativePart a) * (positivePart d + negativePart c) + (positivePart a + negativePart b) * (positivePart c + negativePart d)
+cross a b c d h k = rearrange (positivePart b + negativePart a) (positivePart a + negativePart b) (positivePart d + negativePart c) (positivePart c + negativePart d) (omega ints) (omega ints)
 
 pub sign : (z : ℤ) → (pos 0 ≤ℤ z) ⊎ (z ≤ℤ pos 0)
 sign (pos n) = inl (omega ints)
@@ -486,17 +425,8 @@ prod-high a b c d x y m ax xb cy yd m1 m2 m3 m4 =
     (sign y)
 
 -- ---- bounds on sizes, for `SFits` of sums and products of bounded numbers
-pub abs-sum : (a b : ℤ) → natAbs (a +ℤ b) ≤ natAbs a + natAbs b
-abs-sum a b = omega (arith, plus a b, natAbs-is a, natAbs-is b, natAbs-is (a +ℤ b), apart (a +ℤ b))
-
-pub abs-dif : (a b : ℤ) → natAbs (a -ℤ b) ≤ natAbs a + natAbs b
-abs-dif a b = omega (arith, minus a b, natAbs-is a, natAbs-is b, natAbs-is (a -ℤ b), apart (a -ℤ b))
-
 pub abs-prod : (a b : ℤ) {k l : ℕ} → natAbs a ≤ k → natAbs b ≤ l → natAbs (a *ℤ b) ≤ k * l
 abs-prod a b {k} {l} h i = rw natAbs-times (mul-le-mul h i)
-
-pub abs-of : (z : ℤ) (k : ℕ) → negℤ (pos k) ≤ℤ z → z ≤ℤ pos k → natAbs z ≤ k
-abs-of z k h i = omega (ints, natAbs-is z, apart z, neg-P (pos k), neg-N (pos k))
 
 pub fits-abs : (z : ℤ) (k : ℕ) → T (ltb k (2 ^ 63)) → natAbs z ≤ k → SFits w64 z
 fits-abs z k t h = from-fits z (omega (arith, natAbs-is z, ltb→lt k (2 ^ 63) t))
@@ -506,16 +436,16 @@ pub by-test : (x : Bool) (y z : ℤ) (Q : ℤ → Type 0) → (x ≡ true → Q 
 by-test true y z Q f g = f refl
 by-test false y z Q f g = g refl
 
-pub min-parts : (a b : ℤ) → P (minZ a b) + (N a + N b) ≡ min (P a + N b) (P b + N a) + N (minZ a b)
+pub min-parts : (a b : ℤ) → positivePart (minZ a b) + (negativePart a + negativePart b) ≡ min (positivePart a + negativePart b) (positivePart b + negativePart a) + negativePart (minZ a b)
 unfolding minZ
 min-parts a b =
-    by-test (leZ a b) a b (λ z. P z + (N a + N b) ≡ min (P a + N b) (P b + N a) + N z)
+    by-test (leZ a b) a b (λ z. positivePart z + (negativePart a + negativePart b) ≡ min (positivePart a + negativePart b) (positivePart b + negativePart a) + negativePart z)
     (λ e. omega (arith, le-true a b e)) (λ e. omega (arith, le-false a b e))
 
-pub max-parts : (a b : ℤ) → P (maxZ a b) + (N a + N b) ≡ max (P a + N b) (P b + N a) + N (maxZ a b)
+pub max-parts : (a b : ℤ) → positivePart (maxZ a b) + (negativePart a + negativePart b) ≡ max (positivePart a + negativePart b) (positivePart b + negativePart a) + negativePart (maxZ a b)
 unfolding maxZ
 max-parts a b =
-    by-test (leZ a b) b a (λ z. P z + (N a + N b) ≡ max (P a + N b) (P b + N a) + N z)
+    by-test (leZ a b) b a (λ z. positivePart z + (negativePart a + negativePart b) ≡ max (positivePart a + negativePart b) (positivePart b + negativePart a) + negativePart z)
     (λ e. omega (arith, le-true a b e)) (λ e. omega (arith, le-false a b e))
 
 -- ---- the remainder
@@ -524,25 +454,15 @@ rem-is (pos a) (pos b) = ap pos (div-add-mod' a b)
 rem-is (pos a) (negsuc b) =
     let k = a / suc b in
     let r = remZ (pos a) (negsuc b) in
-    omega (ints, plus (negℤ (pos k) *ℤ negsuc b) r, neg-times-P (pos k) (negsuc b), neg-times-N (pos k) (negsuc b), div-add-mod' a (suc b))
+    omega (ints, plus (negℤ (pos k) *ℤ negsuc b) r, neg-times-positive (pos k) (negsuc b), neg-times-negative (pos k) (negsuc b), div-add-mod' a (suc b))
 rem-is (negsuc a) (pos b) =
     let k = suc a / b in
     let m = suc a % b in
-    omega (ints, plus (negℤ (pos k) *ℤ pos b) (negℤ (pos m)), neg-times-P (pos k) (pos b), neg-times-N (pos k) (pos b), neg-P (pos m), neg-N (pos m), div-add-mod' (suc a) b)
+    omega (ints, plus (negℤ (pos k) *ℤ pos b) (negℤ (pos m)), neg-times-positive (pos k) (pos b), neg-times-negative (pos k) (pos b), neg-positive (pos m), neg-negative (pos m), div-add-mod' (suc a) b)
 rem-is (negsuc a) (negsuc b) =
     let k = suc a / suc b in
     let m = suc a % suc b in
-    omega (ints, plus (pos k *ℤ negsuc b) (negℤ (pos m)), times (pos k) (negsuc b), neg-P (pos m), neg-N (pos m), div-add-mod' (suc a) (suc b))
-
--- ---- negations. These are no rules for `omega` (a function type shows no argument): list them with their arguments
-pub not-le : (a b : ℤ) → (a ≤ℤ b → ⊥) → P b + N a < P a + N b
-not-le a b f = lt-of-not-le (λ h. f (from-le a b h))
-
-pub not-lt : (a b : ℤ) → (a <ℤ b → ⊥) → P b + N a ≤ P a + N b
-not-lt a b f = le-of-suc-le-suc (lt-of-not-le (λ h. f (from-lt a b h)))
-
-pub not-eq : (a b : ℤ) → (a ≡ b → ⊥) → P a + N b ≢ P b + N a
-not-eq a b f h = f (from-eq a b h)
+    omega (ints, plus (pos k *ℤ negsuc b) (negℤ (pos m)), times (pos k) (negsuc b), neg-positive (pos m), neg-negative (pos m), div-add-mod' (suc a) (suc b))
 
 -- ---- cases
 pub le-or-lt : (m n : ℕ) → (m ≤ n) ⊎ (n < m)
@@ -569,7 +489,7 @@ pub *ℤ-anti : (a b c : ℤ) → a ≤ℤ b → c ≤ℤ pos 0 → (b *ℤ c) �
 *ℤ-anti a b c h k = omega (ints, times a c, times b c, cross a b c (pos 0) h k)
 
 pub neg-times : (x y : ℤ) → negℤ x *ℤ y ≡ negℤ (x *ℤ y)
-neg-times x y = omega (ints, neg-times-P x y, neg-times-N x y, times x y, neg-P (x *ℤ y), neg-N (x *ℤ y))
+neg-times x y = omega (ints, neg-times-positive x y, neg-times-negative x y, times x y, neg-positive (x *ℤ y), neg-negative (x *ℤ y))
 
 -- ---- a function that keeps the order goes through the smaller and the larger of two
 module _ (f : ℤ → ℤ) (mono : (a b : ℤ) → a ≤ℤ b → f a ≤ℤ f b) where
@@ -593,7 +513,7 @@ module _ (f : ℤ → ℤ) (mono : (a b : ℤ) → a ≤ℤ b → f a ≤ℤ f b
 pub near-fits : (z : ℤ) → Near z → SFits w64 z
 near-fits z h = omega ints
 
-pub near-read : (z : ℤ) → Near z → P (at z) + N z ≡ P z + N (at z)
+pub near-read : (z : ℤ) → Near z → positivePart (at z) + negativePart z ≡ positivePart z + negativePart (at z)
 near-read z h = read-is z (near-fits z h)
 
 pub ruleset nears = (ints, near-read)

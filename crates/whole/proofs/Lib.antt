@@ -6,6 +6,7 @@ pub mod Held
 pub mod Kit
 pub mod Lengths
 pub mod Meaning
+pub mod Promises
 pub mod Newton
 pub mod Powers
 pub mod Products

@@ -1,39 +1,20 @@
--- What the computed definitions are, in words of order and product alone; each is determined by what is said of it here.
-use mathlib.Core.Path.{_≡_, refl, sym, _∙_}
+-- The computed definitions are what Meaning.antt of specs/ says of them, and it says it of no other number.
+use mathlib.Core.Path.{_≡_, refl}
 use mathlib.Core.Logic.{⊎-elim}
 use mathlib.Core.Bool.{Bool, true, false, cond}
-use Prim.Native.Nat.{ℕ, _+_, _^_, _≤_}
+use Prim.Native.Nat.{ℕ, _+_, _≤_}
 use native.Mathlib.Omega.{arith}
 use lib.IntN.{ℤ, pos, negsuc, _+ℤ_, _*ℤ_}
 use lib.Signed.{leZ, _≤ℤ_, _<ℤ_}
 use Rattle.whole.specs.Numbers.{M, minusM, Near, minZ, floorQ, ceilQ, middleOf, rootIn, rootDown, rootUp, leastPower}
+use Rattle.whole.specs.Meaning.{Floor, Ceiling, Middle, RootDown, RootUp, LeastPower}
 use Rattle.whole.specs.inner.Held.{held}
-use Rattle.whole.proofs.Kit.{ints, plus, times, side, lt-or-le, min-parts, max-parts, root-ltℤ, root-leℤ}
+use Rattle.whole.proofs.Kit.{ints, plus, times, side, min-parts, max-parts, root-ltℤ, root-leℤ}
 use Rattle.whole.proofs.Division.{Under, Over, past-up, past-down, short-up, short-down, floor-under, ceiling-over}
 use Rattle.whole.proofs.Digits.{rooted}
 use Rattle.whole.proofs.Doubling.{enough-from, least-from, below-pow}
 
 -- ---- quotients
--- q is at most the exact quotient of a by b
-pub record UpTo (a b q : ℤ) : Type 0 where
-  pub up : pos 0 <ℤ b → (q *ℤ b) ≤ℤ a
-  pub down : b <ℤ pos 0 → a ≤ℤ (q *ℤ b)
-
--- q is at least the exact quotient of a by b
-pub record From (a b q : ℤ) : Type 0 where
-  pub up : pos 0 <ℤ b → a ≤ℤ (q *ℤ b)
-  pub down : b <ℤ pos 0 → (q *ℤ b) ≤ℤ a
-
--- q is the exact quotient of a by b rounded down
-pub record Floor (a b q : ℤ) : Type 0 where
-  pub below : UpTo a b q
-  pub most : (r : ℤ) → UpTo a b r → r ≤ℤ q
-
--- q is the exact quotient of a by b rounded up
-pub record Ceiling (a b q : ℤ) : Type 0 where
-  pub above : From a b q
-  pub least : (r : ℤ) → From a b r → q ≤ℤ r
-
 -- each is told by one step
 pub floor-of : (a b q : ℤ) → (b ≡ pos 0 → ⊥) → Under a b q → Floor a b q
 floor-of a b q n u = record {
@@ -70,11 +51,6 @@ ceiling-only a b q n f =
     omega ints
 
 -- ---- the middle
--- m is half of l + h, rounded down
-pub record Middle (l h m : ℤ) : Type 0 where
-  pub below : (m +ℤ m) ≤ℤ (l +ℤ h)
-  pub above : (l +ℤ h) <ℤ (m +ℤ m +ℤ pos 2)
-
 pub middle-is : (l h : ℤ) → Middle l h (middleOf l h)
 middle-is l h =
     let m = middleOf l h in
@@ -88,18 +64,6 @@ middle-only l h m f =
     omega (ints, plus m m, plus (m +ℤ m) (pos 2), plus n n, plus (n +ℤ n) (pos 2))
 
 -- ---- roots
--- r is the whole root of z, rounded down
-pub record RootDown (z r : ℤ) : Type 0 where
-  pub at-least : pos 0 ≤ℤ r
-  pub within : (r *ℤ r) ≤ℤ z
-  pub most : z <ℤ ((r +ℤ pos 1) *ℤ (r +ℤ pos 1))
-
--- r is the whole root of z, rounded up: the least number from 0 up whose square reaches z
-pub record RootUp (z r : ℤ) : Type 0 where
-  pub at-least : pos 0 ≤ℤ r
-  pub over : z ≤ℤ (r *ℤ r)
-  pub least : (s : ℤ) → pos 0 ≤ℤ s → z ≤ℤ (s *ℤ s) → r ≤ℤ s
-
 -- rootDown is the root rounded down, and 0 below 0
 pub down-is : (z : ℤ) → pos 0 ≤ℤ z → RootDown z (rootDown z)
 unfolding rootDown
@@ -149,19 +113,7 @@ unfolding rootUp rootDown
 up-is (pos n) = up-from (pos n) (omega ints)
 up-is (negsuc n) = record { at-least = omega ints; over = omega ints; least = λ s i j. i }
 
-pub up-only : (z r : ℤ) → RootUp z r → r ≡ rootUp z
-up-only z r f =
-    let g = up-is z in
-    let i = f .least (rootUp z) (g .at-least) (g .over) in
-    let j = g .least r (f .at-least) (f .over) in
-    omega ints
-
 -- ---- powers of 2
--- 2^k is the least power of 2 that is at least m
-pub record LeastPower (m k : ℕ) : Type 0 where
-  pub enough : m ≤ 2 ^ k
-  pub least : (j : ℕ) → m ≤ 2 ^ j → k ≤ j
-
 pub power-is : (m : ℕ) → LeastPower m (leastPower m)
 unfolding leastPower
 power-is m = record {
@@ -192,13 +144,3 @@ held-is z =
       over = λ h. omega (ints, max-parts (negsuc 1_000_000_000_000) m, min-parts (pos 1_000_000_000_001) z);
       under = λ h. omega (ints, max-parts (negsuc 1_000_000_000_000) m, min-parts (pos 1_000_000_000_001) z);
     }
-
-pub held-only : (z r : ℤ) → Holding z r → r ≡ held z
-held-only z r f =
-    ⊎-elim
-    (λ h. f .over h ∙ sym (held-is z .over h))
-    (λ h. ⊎-elim
-    (λ k. f .under k ∙ sym (held-is z .under k))
-    (λ k. let n : Near z = omega ints in f .within n ∙ sym (held-is z .within n))
-    (lt-or-le z minusM))
-    (lt-or-le M z)

@@ -5,16 +5,13 @@ use native.Mathlib.Nat.{le-trans, pow-suc}
 use native.Mathlib.Omega.{arith}
 use lib.Count.{leadingZeros}
 use lib.IntN.{_-ℤ_}
-use Rattle.whole.specs.Numbers.{P, leastPower}
+use Rattle.whole.specs.Numbers.{positivePart, leastPower}
 use Rattle.whole.specs.Ranges.{values}
 use Rattle.whole.specs.inner.Held.{Good}
 use Rattle.whole.specs.declared.Range.{Range}
 use Rattle.whole.proofs.Lengths.{Length, length, shortest}
 use Rattle.whole.proofs.Meaning.{power-is, power-only}
 use Rattle.whole.proofs.Spans.{values-next, ends-apart}
-
-pub power-one : leastPower 1 ≡ 0
-power-one = let h = power-is 1 .least 0 (omega arith) in omega arith
 
 pub power-mono : (l m : ℕ) → l ≤ m → leastPower l ≤ leastPower m
 power-mono l m h = power-is l .least (leastPower m) (le-trans h (power-is m .enough))
@@ -32,7 +29,7 @@ power-length : (v w m : ℕ) → v ≡ w + 1 → Length w m → m ≡ leastPower
 power-length v w m e f = power-only v m (record { enough = omega (arith, f .above); least = λ j h. shortest w m j f (omega arith) })
 
 -- the number before a range's values is how far its ends are apart
-pub halved : (r : Range) (w : ℕ) → Good r → w ≡ P (r .high -ℤ r .low) → (64 - leadingZeros 64 w ≡ leastPower (values r)) × (64 - leadingZeros 64 w ≤ 41)
+pub halved : (r : Range) (w : ℕ) → Good r → w ≡ positivePart (r .high -ℤ r .low) → (64 - leadingZeros 64 w ≡ leastPower (values r)) × (64 - leadingZeros 64 w ≤ 41)
 halved r w g e =
     let b = ends-apart r g in
     let f = length w (omega arith) in

@@ -1,5 +1,5 @@
 -- Quotients against products: a product keeps the order in each factor that is above 0, and turns it for one below 0.
-use mathlib.Core.Path.{_≡_, refl, sym, ap, ap₂, subst, _∙_}
+use mathlib.Core.Path.{_≡_, refl, sym, ap, subst, _∙_}
 use Prim.Native.Nat.{zero, suc, _≤_}
 use native.Mathlib.Nat.{div-le-self, zero-div}
 use native.Mathlib.Omega.{arith}
@@ -7,7 +7,7 @@ use lib.IntN.{ℤ, pos, negsuc, negℤ, natAbs, _-ℤ_, _*ℤ_}
 use lib.Signed.{_≤ℤ_, _<ℤ_}
 use Rattle.whole.specs.Numbers.{Near, floorQ, ceilQ}
 use Rattle.whole.specs.inner.Held.{Is}
-use Rattle.whole.proofs.Kit.{ints, nears, at, rn, Holds, made, minus, *ℤ-mono, natAbs-is, neg-P, neg-N, near-abs, abs-near}
+use Rattle.whole.proofs.Kit.{ints, nears, at, rn, Holds, made, minus, *ℤ-mono, natAbs-is, neg-positive, neg-negative, near-abs, abs-near}
 use Rattle.whole.proofs.Division.{Under, Over, past-up, short-up, floor-under, ceiling-over}
 use Rattle.whole.proofs.Meaning.{floor-of, floor-only, ceiling-of, ceiling-only}
 
@@ -62,7 +62,7 @@ floor-size (pos (suc a)) (negsuc b) = omega (arith, div-le-self a (suc b))
 floor-size (negsuc a) (negsuc b) = div-le-self (suc a) (suc b)
 
 neg-size : (z : ℤ) → natAbs (negℤ z) ≡ natAbs z
-neg-size z = omega (arith, natAbs-is z, natAbs-is (negℤ z), neg-P z, neg-N z)
+neg-size z = omega (arith, natAbs-is z, natAbs-is (negℤ z), neg-positive z, neg-negative z)
 
 pub ceiling-size : (a b : ℤ) → natAbs (ceilQ a b) ≤ natAbs a
 unfolding ceilQ
@@ -83,10 +83,10 @@ ceiling-found a b q h n u = let e = ceiling-only a b q n (ceiling-of a b q n u) 
 
 -- a near number turned by the machine
 pub turn : (z : ℤ) → Near z → Holds (pos 0 -ℤ at z) (negℤ z)
-turn z h = made (ap (λ (x : ℤ). pos 0 -ℤ x) (rn z h) ∙ e) (let l = h in omega (nears, neg-P z, neg-N z))
+turn z h = made (ap (λ (x : ℤ). pos 0 -ℤ x) (rn z h) ∙ e) (let l = h in omega (nears, neg-positive z, neg-negative z))
   where
     e : pos 0 -ℤ z ≡ negℤ z
-    e = omega (ints, minus (pos 0) z, neg-P z, neg-N z)
+    e = omega (ints, minus (pos 0) z, neg-positive z, neg-negative z)
 
 -- a result that is read back
 pub read : {z w r : ℤ} → Is w r → w ≡ z → Is z (at r)
@@ -99,4 +99,4 @@ turned-asks a b h k l =
     let j = turn b k .is in
     let h′ = h in
     let k′ = k in
-    (omega (nears, neg-P a, neg-N a), (omega (nears, neg-P b, neg-N b), omega (nears, neg-P b, neg-N b)))
+    (omega (nears, neg-positive a, neg-negative a), (omega (nears, neg-positive b, neg-negative b), omega (nears, neg-positive b, neg-negative b)))

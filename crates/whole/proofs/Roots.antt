@@ -8,8 +8,9 @@ use lib.Signed.{leZ, _≤ℤ_, _<ℤ_}
 use Rattle.whole.specs.Numbers.{Near, rootDown, rootUp}
 use Rattle.whole.specs.Ranges.{range, In}
 use Rattle.whole.specs.inner.Held.{Is, Root}
-use Rattle.whole.proofs.Kit.{ints, plus, times, cross, neg-P, neg-N, neg-times, *ℤ-comm′, sign, square-N, root-leℤ, root-ltℤ, lt-or-le}
-use Rattle.whole.proofs.Meaning.{RootDown, down-is, down-only, down-none, up-is}
+use Rattle.whole.proofs.Kit.{ints, plus, times, cross, neg-positive, neg-negative, neg-times, *ℤ-comm′, sign, square-negative, root-leℤ, root-ltℤ, lt-or-le}
+use Rattle.whole.specs.Meaning.{RootDown}
+use Rattle.whole.proofs.Meaning.{down-is, down-only, down-none, up-is}
 
 -- ---- squares
 pub square-mono : (a b : ℤ) → pos 0 ≤ℤ a → a ≤ℤ b → (a *ℤ a) ≤ℤ (b *ℤ b)
@@ -20,7 +21,7 @@ neg-square x =
     let e = neg-times x (negℤ x) in
     let f = *ℤ-comm′ x (negℤ x) in
     let g = neg-times x x in
-    omega (ints, neg-P (x *ℤ negℤ x), neg-N (x *ℤ negℤ x), neg-P (x *ℤ x), neg-N (x *ℤ x))
+    omega (ints, neg-positive (x *ℤ negℤ x), neg-negative (x *ℤ negℤ x), neg-positive (x *ℤ x), neg-negative (x *ℤ x))
 
 -- ---- roots of near numbers are small
 pub down-small : (z : ℤ) → Near z → (pos 0 ≤ℤ rootDown z) × (rootDown z ≤ℤ pos 1_000_000)
@@ -39,7 +40,7 @@ up-near z h = let s = up-small z h in omega ints
 module _ (x z : ℤ) (h : pos 0 ≤ℤ x) where
   pub down-from : (x *ℤ x) ≤ℤ z → x ≤ℤ rootDown z
   down-from k =
-      let f = down-is z (omega (ints, square-N x)) in
+      let f = down-is z (omega (ints, square-negative x)) in
       let r = rootDown z in
       let l = root-ltℤ x (r +ℤ pos 1) h (omega (ints, f .at-least, plus r (pos 1))) (omega (ints, f .most)) in
       omega (ints, plus r (pos 1))
@@ -57,10 +58,10 @@ module _ (x z : ℤ) (h : pos 0 ≤ℤ x) where
 pub root-in : (x z : ℤ) → (x *ℤ x) ≤ℤ z → In (range (negℤ (rootDown z)) (rootDown z)) x
 root-in x z k =
     let r = rootDown z in
-    let f = down-is z (omega (ints, square-N x)) in
+    let f = down-is z (omega (ints, square-negative x)) in
     ⊎-elim
-    (λ s. let l = down-from x z s k in omega (ints, f .at-least, neg-P r, neg-N r))
-    (λ s. let e = neg-square x in let l = down-from (negℤ x) z (omega (ints, neg-P x, neg-N x)) (omega ints) in omega (ints, f .at-least, neg-P r, neg-N r, neg-P x, neg-N x))
+    (λ s. let l = down-from x z s k in omega (ints, f .at-least, neg-positive r, neg-negative r))
+    (λ s. let e = neg-square x in let l = down-from (negℤ x) z (omega (ints, neg-positive x, neg-negative x)) (omega ints) in omega (ints, f .at-least, neg-positive r, neg-negative r, neg-positive x, neg-negative x))
     (sign x)
 
 pub in-root : (x z : ℤ) → pos 0 ≤ℤ z → In (range (negℤ (rootDown z)) (rootDown z)) x → (x *ℤ x) ≤ℤ z
@@ -68,21 +69,21 @@ in-root x z h i =
     let r = rootDown z in
     ⊎-elim
     (λ s. down-to x z s h (i .below))
-    (λ s. let e = neg-square x in let l = down-to (negℤ x) z (omega (ints, neg-P x, neg-N x)) h (omega (ints, neg-P r, neg-N r, neg-P x, neg-N x)) in omega ints)
+    (λ s. let e = neg-square x in let l = down-to (negℤ x) z (omega (ints, neg-positive x, neg-negative x)) h (omega (ints, neg-positive r, neg-negative r, neg-positive x, neg-negative x)) in omega ints)
     (sign x)
 
 pub up-turned-from : (x z : ℤ) → x ≤ℤ pos 0 → z ≤ℤ (x *ℤ x) → x ≤ℤ negℤ (rootUp z)
 up-turned-from x z h k =
     let r = rootUp z in
     let e = neg-square x in
-    let l = up-from (negℤ x) z (omega (ints, neg-P x, neg-N x)) (omega ints) in
-    omega (ints, neg-P r, neg-N r, neg-P x, neg-N x)
+    let l = up-from (negℤ x) z (omega (ints, neg-positive x, neg-negative x)) (omega ints) in
+    omega (ints, neg-positive r, neg-negative r, neg-positive x, neg-negative x)
 
 pub up-turned-to : (x z : ℤ) → x ≤ℤ pos 0 → x ≤ℤ negℤ (rootUp z) → z ≤ℤ (x *ℤ x)
 up-turned-to x z h k =
     let r = rootUp z in
     let e = neg-square x in
-    let l = up-to (negℤ x) z (omega (ints, neg-P x, neg-N x)) (omega (ints, neg-P r, neg-N r, neg-P x, neg-N x)) in
+    let l = up-to (negℤ x) z (omega (ints, neg-positive x, neg-negative x)) (omega (ints, neg-positive r, neg-negative r, neg-positive x, neg-negative x)) in
     omega ints
 
 -- ---- what the code has

@@ -6,11 +6,11 @@ use Prim.Native.Nat.{_+_, _≤_}
 use lib.Dec.{T}
 use lib.IntN.{ℤ, pos, _+ℤ_, _-ℤ_, _*ℤ_}
 use lib.Signed.{leZ, _≤ℤ_, _<ℤ_}
-use Rattle.whole.specs.Numbers.{P, N, minZ, maxZ, min4, max4}
+use Rattle.whole.specs.Numbers.{positivePart, negativePart, minZ, maxZ, min4, max4}
 use Rattle.whole.specs.Ranges.{range, In, values, holdsZero, sumSpan, differenceSpan, productSpan, squareSpan}
 use Rattle.whole.specs.inner.Held.{Good}
 use Rattle.whole.specs.declared.Range.{Range}
-use Rattle.whole.proofs.Kit.{ints, apart, plus, minus, times, cross, sign, square-N, min-parts, max-parts, prod-low, prod-high}
+use Rattle.whole.proofs.Kit.{ints, apart, plus, minus, times, cross, sign, square-negative, min-parts, max-parts, prod-low, prod-high}
 
 -- two ranges are one where their ends are
 pub ends-is : {a b c d : ℤ} → a ≡ c → b ≡ d → range a b ≡ range c d
@@ -32,22 +32,22 @@ difference-in x y u v h k = omega (ints, minus (x .low) (y .high), minus (x .hig
 
 -- ---- products
 -- the least and the greatest of four, against each of them
-record Least (m a b c d : ℤ) : Type 0 where
-  one : m ≤ℤ a
-  two : m ≤ℤ b
-  three : m ≤ℤ c
-  four : m ≤ℤ d
+pub record Least (m a b c d : ℤ) : Type 0 where
+  pub one : m ≤ℤ a
+  pub two : m ≤ℤ b
+  pub three : m ≤ℤ c
+  pub four : m ≤ℤ d
 
-least-of : (a b c d : ℤ) → Least (min4 a b c d) a b c d
+pub least-of : (a b c d : ℤ) → Least (min4 a b c d) a b c d
 least-of a b c d = omega (ints, min-parts a b, min-parts c d, min-parts (minZ a b) (minZ c d))
 
-record Most (m a b c d : ℤ) : Type 0 where
-  one : a ≤ℤ m
-  two : b ≤ℤ m
-  three : c ≤ℤ m
-  four : d ≤ℤ m
+pub record Most (m a b c d : ℤ) : Type 0 where
+  pub one : a ≤ℤ m
+  pub two : b ≤ℤ m
+  pub three : c ≤ℤ m
+  pub four : d ≤ℤ m
 
-most-of : (a b c d : ℤ) → Most (max4 a b c d) a b c d
+pub most-of : (a b c d : ℤ) → Most (max4 a b c d) a b c d
 most-of a b c d = omega (ints, max-parts a b, max-parts c d, max-parts (maxZ a b) (maxZ c d))
 
 pub product-in : (x y : Range) (u v : ℤ) → In x u → In y v → In (productSpan x y) (u *ℤ v)
@@ -117,7 +117,7 @@ pub square-in : (x : Range) (u : ℤ) → In x u → In (squareSpan x) (u *ℤ u
 square-in x u i = go (holdsZero x) refl
   where
     go : (t : Bool) → holdsZero x ≡ t → In (range (cond t (pos 0) (minZ (x .low *ℤ x .low) (x .high *ℤ x .high))) (maxZ (x .low *ℤ x .low) (x .high *ℤ x .high))) (u *ℤ u)
-    go true f = let m = square-up (x .low) (x .high) u (i .above) (i .below) in record { above = omega (ints, square-N u); below = m }
+    go true f = let m = square-up (x .low) (x .high) u (i .above) (i .below) in record { above = omega (ints, square-negative u); below = m }
     go false f = record { above = square-down (x .low) (x .high) u (i .above) (i .below) (clear x f); below = square-up (x .low) (x .high) u (i .above) (i .below) }
 
 -- ---- spans of ranges in order are in order
@@ -137,9 +137,6 @@ square-ordered x h = in-ordered (square-in x (x .low) (low-in h))
 -- ---- spans of one value are one value
 pub sum-one : (u v : ℤ) → sumSpan (range u u) (range v v) ≡ range (u +ℤ v) (u +ℤ v)
 sum-one u v = refl
-
-pub difference-one : (u v : ℤ) → differenceSpan (range u u) (range v v) ≡ range (u -ℤ v) (u -ℤ v)
-difference-one u v = refl
 
 least-one : (a : ℤ) → min4 a a a a ≡ a
 least-one a = omega (ints, min-parts a a, min-parts (minZ a a) (minZ a a))
@@ -165,13 +162,13 @@ square-one u = ends-is (go (holdsZero (range u u)) refl) (omega (ints, max-parts
     go false e = omega (ints, min-parts (u *ℤ u) (u *ℤ u))
 
 -- ---- how many values a range has
-pub values-is : (r : Range) → r .low ≤ℤ r .high → values r + (P (r .low) + N (r .high)) ≡ P (r .high) + N (r .low) + 1
+pub values-is : (r : Range) → r .low ≤ℤ r .high → values r + (positivePart (r .low) + negativePart (r .high)) ≡ positivePart (r .high) + negativePart (r .low) + 1
 values-is r h =
     omega (ints, minus (r .high) (r .low), plus (r .high -ℤ r .low) (pos 1), apart (r .high -ℤ r .low +ℤ pos 1))
 
 -- one more than the ends are apart, which is at most 2M
-pub values-next : (r : Range) → r .low ≤ℤ r .high → values r ≡ P (r .high -ℤ r .low) + 1
+pub values-next : (r : Range) → r .low ≤ℤ r .high → values r ≡ positivePart (r .high -ℤ r .low) + 1
 values-next r h = omega (ints, values-is r h, minus (r .high) (r .low), apart (r .high -ℤ r .low))
 
-pub ends-apart : (r : Range) → Good r → P (r .high -ℤ r .low) ≤ 2_000_000_000_000
+pub ends-apart : (r : Range) → Good r → positivePart (r .high -ℤ r .low) ≤ 2_000_000_000_000
 ends-apart r g = omega (ints, minus (r .high) (r .low), apart (r .high -ℤ r .low))

@@ -1,9 +1,9 @@
 -- Whole numbers: M, the smaller and the larger of two, quotients and roots with their rounding, and how often a range can be halved.
--- What each of the computed definitions is, in words of order and product alone, is said in proofs/Meaning.antt.
-use mathlib.Core.Bool.{Bool, true, false, cond}
+-- What each of the computed definitions is, in words of order and product alone, is said in Meaning.antt.
+use mathlib.Core.Bool.{true, false, cond}
 use Prim.Native.Nat.{ℕ, zero, suc, _*_, _/_, _^_}
 use lib.Dec.{leb}
-use lib.IntN.{ℤ, pos, negsuc, negℤ, _+ℤ_, _-ℤ_, _*ℤ_}
+use lib.IntN.{ℤ, pos, negsuc, negℤ, _+ℤ_, _*ℤ_}
 use lib.Signed.{leZ, _≤ℤ_}
 
 -- M is 1,000,000,000,000
@@ -19,13 +19,13 @@ pub record Near (z : ℤ) : Type 0 where
   pub high : z ≤ℤ M
 
 -- the positive and the negative part of a number, one of which is 0
-abbrev pub P : ℤ → ℕ
-P (pos n) = n
-P (negsuc n) = 0
+abbrev pub positivePart : ℤ → ℕ
+positivePart (pos n) = n
+positivePart (negsuc n) = 0
 
-abbrev pub N : ℤ → ℕ
-N (pos n) = 0
-N (negsuc n) = suc n
+abbrev pub negativePart : ℤ → ℕ
+negativePart (pos n) = 0
+negativePart (negsuc n) = suc n
 
 -- the smaller of two
 unfoldable pub minZ : ℤ → ℤ → ℤ

@@ -4,7 +4,8 @@ use native.Mathlib.Omega.{arith}
 use lib.Seq.{length-take-le}
 use borrow.Author.Needs.{needs}
 use Rattle.answer.proofs.Writing.{puts-as}
-use Rattle.answer.proofs.Accepted.{zeros-full, Taken, refused-output, taken, Few, few, fronts, accepted-output}
+use Rattle.translate.proofs.AcceptedFronts.{Taken, taken}
+use Rattle.answer.proofs.Accepted.{zeros-full, refused-output, Few, few, fronts, accepted-output}
 use Rattle.answer.proofs.Short.{answers}
 use Rattle.answer.proofs.answer.Statement.{statement}
 use Rattle.answer.proofs.answer.Tie as tie
@@ -45,7 +46,7 @@ call c = c .before .before .before .before .before .before .before
 
 -- the sheet that was read
 from : (c : tie.After-translated2) → Taken (call c .before .before .before .before .before .before .before .args .sheet .now) (c .translated2 .given .0 .0) (call c .translate .last .1 .0) (call c .translate .last .1 .1 .0) (call c .translate .last .1 .1 .1 .0) (call c .translate .last .1 .1 .1 .1 .0) (call c .translate .last .1 .1 .1 .1 .1 .0)
-from c = taken _ _ _ _ _ _ zeros-full _ _ _ _ _ _ (call c .translate .ensures) _ (c .translated2 .given .1)
+from c = taken _ _ _ _ _ _ _ _ _ _ _ _ _ (call c .translate .ensures) (c .translated2 .given .1)
 
 small : (c : tie.After-translated2) → Few (c .translated2 .given .0 .0)
 small c = few _ _ _ _ _ _ _ (from c)

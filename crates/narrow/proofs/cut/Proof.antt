@@ -4,7 +4,7 @@ use Rattle.whole.specs.Ranges.{range}
 use Rattle.whole.specs.Numbers.{minZ, maxZ}
 use mathlib.Core.Path.{_≡_}
 use Rattle.whole.proofs.Spans.{ends-is}
-use Rattle.narrow.proofs.Cutting.{done-gone, done-raised, done-lowered, done-same, not-empty}
+use Rattle.narrow.proofs.Cutting.{done-none, done-raised, done-lowered, done-same, not-empty}
 use Rattle.whole.proofs.Kit.{ints, got, at, rn, call2}
 use borrow.Author.Needs.{needs}
 use Rattle.narrow.proofs.cut.Statement.{statement}
@@ -55,7 +55,7 @@ returns-2 c =
     let g = k .before .before .before .before .before .before .range-at .ensures in
     let l = rn (old k .low) (g .good .low) in
     let h = rn (old k .high) (g .good .high) in
-    done-gone (s .args .q) (s .args .s) (s .args .prior) (s .args .b .now) (s .pre .0) (s .pre .1) (old k) (new k) g (ends-is (low-is k) (high-is k)) (omega ints)
+    done-none (s .args .q) (s .args .s) (s .args .prior) (s .args .b .now) (s .pre .0) (s .pre .1) (old k) (new k) g (ends-is (low-is k) (high-is k)) (omega ints)
 
 put-requires : tie.Need-put-requires
 put-requires c κs = search needs

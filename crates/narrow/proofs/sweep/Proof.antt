@@ -2,7 +2,7 @@
 use mathlib.Core.Path.{sym, ap, subst}
 use Prim.Native.Nat.{ℕ, _/_}
 use Rattle.problem.specs.inner.Placed.{Placed}
-use Rattle.narrow.proofs.Sweeping.{sweep-gone, sweep-both}
+use Rattle.narrow.proofs.Sweeping.{sweep-empty, sweep-both}
 use borrow.Author.Needs.{needs}
 use Rattle.narrow.proofs.sweep.Statement.{statement}
 use Rattle.narrow.proofs.sweep.Tie as tie
@@ -17,7 +17,7 @@ same-length : tie.Need-same-length
 same-length c = search needs
 
 returns : tie.Need-returns
-returns c = sweep-gone (c .before .before .before .sweep-primitives .ensures) (c .enum-told .given .1)
+returns c = sweep-empty (c .before .before .before .sweep-primitives .ensures) (c .enum-told .given .1)
 
 sweep-clauses-requires : tie.Need-sweep-clauses-requires
 sweep-clauses-requires c κs =

@@ -7,7 +7,7 @@ use lib.IntN.{ℤ, pos, natAbs}
 use Rattle.whole.proofs.Kit.{at, got, index}
 use Rattle.problem.specs.Problem.{quantities}
 use Rattle.problem.proofs.Placing.{left-sign}
-use Rattle.narrow.proofs.Sweeping.{Going, going-start, going-on, going-end, going-gone, clausesLeft, clauses-on, clauses-none, Ahead, ahead-start, ahead-room, ahead-on, ahead-lits}
+use Rattle.narrow.proofs.Sweeping.{Going, going-start, going-on, going-end, going-empty, clausesLeft, clauses-on, clauses-none, Ahead, ahead-start, ahead-room, ahead-on, ahead-lits}
 use native.Mathlib.Omega.{arith}
 use borrow.Author.Needs.{needs}
 use Rattle.narrow.proofs.sweep_clauses.Statement.{statement}
@@ -96,7 +96,7 @@ same-length : tie.Need-same-length Inv-loop μ-loop
 same-length c = on (c .before .before .before) .long
 
 returns : tie.Need-returns Inv-loop μ-loop
-returns c = going-gone (on (c .before .before .before)) (c .enum-told .given .1)
+returns c = going-empty (on (c .before .before .before)) (c .enum-told .given .1)
 
 add-i : tie.Need-add-i Inv-loop μ-loop
 add-i c = omega arith

@@ -1,7 +1,7 @@
 -- `narrow::sweep_primitives` meets its contract. The invariant: the steps of the primitives from place i on, from the box in hand, come to what all steps come to. The measure is the primitives left.
 use Prim.Native.Nat.{_+_, _-_, _≤_}
 use Rattle.narrow.specs.declared.Status.the-variants.{Same}
-use Rattle.narrow.proofs.Sweeping.{Going, going-start, going-on, going-end, going-gone, primitivesLeft, primitives-on, primitives-none, primitive-readable, primitive-sited}
+use Rattle.narrow.proofs.Sweeping.{Going, going-start, going-on, going-end, going-empty, primitivesLeft, primitives-on, primitives-none, primitive-readable, primitive-sited}
 use native.Mathlib.Omega.{arith}
 use borrow.Author.Needs.{needs}
 use Rattle.narrow.proofs.sweep_primitives.Statement.{statement}
@@ -39,7 +39,7 @@ same-length : tie.Need-same-length Inv-loop μ-loop
 same-length c = search needs
 
 returns : tie.Need-returns Inv-loop μ-loop
-returns c = going-gone (on (c .before .before .before)) (c .enum-told .given .1)
+returns c = going-empty (on (c .before .before .before)) (c .enum-told .given .1)
 
 add-i : tie.Need-add-i Inv-loop μ-loop
 add-i c = omega arith

@@ -10,12 +10,8 @@ use Rattle.problem.specs.Problem.{Box, lowAt, highAt}
 use Rattle.problem.specs.inner.Placed.{ReadableLiteral, literalAt}
 use Rattle.problem.specs.declared.Literal.{Literal}
 use Rattle.problem.specs.declared.Literal.the-variants.{AtMost, AtLeast}
+use Rattle.narrow.specs.Named.{quantityOf}
 use Rattle.narrow.specs.inner.Done.{Has}
-
--- the quantity of a literal
-abbrev pub quantityOf : Literal → ℕ
-quantityOf (AtMost q c) = q
-quantityOf (AtLeast q c) = q
 
 -- the range that a literal asks of its quantity
 abbrev pub askedOf : Box → Literal → Range

@@ -3,7 +3,6 @@ use mathlib.Core.Path.{_≡_}
 use mathlib.Core.List.{List}
 use Prim.Native.Nat.{ℕ, _+_, _*_, _<_}
 use lib.ListN.{length}
-use lib.IntN.{ℤ}
 use lib.Signed.{_≤ℤ_, _<ℤ_}
 use Rattle.whole.specs.inner.Held.{Good}
 use Rattle.whole.specs.declared.Range.{Range}
@@ -11,8 +10,8 @@ use Rattle.problem.specs.Problem.{Box, rangeAt}
 use Rattle.problem.specs.declared.Primitive.{Primitive}
 use Rattle.problem.specs.declared.Primitive.the-variants.{Sum, Product, Square}
 use Rattle.problem.specs.declared.Literal.{Literal}
-use Rattle.narrow.specs.Cuts.{putAt, Result, gone, moved, still, Step, steps}
-use Rattle.narrow.specs.Sweep.{Swept, empty, changed, unchanged, sweepOf}
+use Rattle.narrow.specs.Cuts.{putAt, Swept, empty, changed, unchanged, Step, steps}
+use Rattle.narrow.specs.Sweep.{sweepOf}
 use Rattle.narrow.specs.declared.Status.{Status}
 use Rattle.narrow.specs.declared.Status.the-variants.{Empty, Changed, Same}
 
@@ -40,25 +39,18 @@ pub record Replaced (q : ℕ) (r : Range) (b₀ : Box) (s : Status) (b : Box) : 
   pub none : r .high <ℤ r .low → (s ≡ Empty) × (b ≡ b₀)
   pub some : r .low ≤ℤ r .high → (s ≡ Changed) × (b ≡ putAt b₀ q r)
 
--- a status, with the box it leaves, as a result
-abbrev pub resultAs : Status → Box → Result
-resultAs Empty b = gone
-resultAs Changed b = moved b
-resultAs Same b = still b
-
--- steps done: what they come to, and that the box stays fine, also where it is empty and its contents no longer matter
-pub record Done (ss : List Step) (r₀ : Status) (b₀ : Box) (r : Status) (b : Box) : Type 0 where
-  pub says : resultAs r b ≡ steps (resultAs r₀ b₀) ss
-  pub fine : Fine b
-
--- a status, with the box it leaves, as what a sweep comes to
+-- a status, with the box it leaves
 abbrev pub sweptAs : Status → Box → Swept
 sweptAs Empty b = empty
 sweptAs Changed b = changed b
-sweptAs Same b = unchanged
+sweptAs Same b = unchanged b
 
--- a sweep done: what it comes to; a box in which nothing changed is as it was; and every box stays fine
+-- steps done: what they come to, and that the box stays fine, also where it is empty and its contents no longer matter
+pub record Done (ss : List Step) (r₀ : Status) (b₀ : Box) (r : Status) (b : Box) : Type 0 where
+  pub says : sweptAs r b ≡ steps (sweptAs r₀ b₀) ss
+  pub fine : Fine b
+
+-- a sweep done: what it comes to, and that the box stays fine
 pub record Sweeps (ps : List Primitive) (cs : List (List Literal)) (b₀ : Box) (r : Status) (b : Box) : Type 0 where
   pub says : sweptAs r b ≡ sweepOf ps cs b₀
-  pub kept : r ≡ Same → b ≡ b₀
   pub fine : Fine b

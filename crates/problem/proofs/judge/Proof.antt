@@ -1,5 +1,7 @@
 -- `problem::judge` meets its contract: the grounds are tested in the order of `judgeOf`.
-use mathlib.Core.Path.{sym, _∙_}
+use mathlib.Core.Path.{_≡_, sym, _∙_}
+use mathlib.Core.Bool.{false}
+use Rattle.problem.specs.Grounds.{badQuantities, badLists, badRanges}
 use Rattle.problem.proofs.Judging.{met-1, met-2, met-3, met-4, met-5, met-none, few-quantities}
 use borrow.Author.Needs.{needs}
 use Rattle.problem.proofs.judge.Statement.{statement}
@@ -35,40 +37,37 @@ returns-3 c =
     (sym (c .before .before .before .bad-lists .ensures) ∙ c .before .before .if2 .left)
     (sym (c .before .bad-ranges .ensures) ∙ c .if3 .taken)
 
+-- ---- after the first three tests
+module _ (c : tie.Else3) where
+  no-quantities : badQuantities (c .before .before .before .before .before .before .args .ranges .now) ≡ false
+  no-quantities = sym (c .before .before .before .before .before .bad-quantities .ensures) ∙ c .before .before .before .before .if1 .left
+
+  no-lists : badLists (c .before .before .before .before .before .before .args .primitives .now) (c .before .before .before .before .before .before .args .lengths .now) (c .before .before .before .before .before .before .args .literals .now) ≡ false
+  no-lists = sym (c .before .before .before .bad-lists .ensures) ∙ c .before .before .if2 .left
+
+  no-ranges : badRanges (c .before .before .before .before .before .before .args .ranges .now) ≡ false
+  no-ranges = sym (c .before .bad-ranges .ensures) ∙ c .if3 .left
+
 bad-primitives-requires : tie.Need-bad-primitives-requires
-bad-primitives-requires c κs = few-quantities (c .before .before .before .before .before .before .args .ranges .now) (sym (c .before .before .before .before .before .bad-quantities .ensures) ∙ c .before .before .before .before .if1 .left)
+bad-primitives-requires c κs = few-quantities (c .before .before .before .before .before .before .args .ranges .now) (no-quantities c)
 
 returns-4 : tie.Need-returns-4
 returns-4 c =
-    let a = c .before .before .before .before .before .before .before .before .args in
-    met-4 (a .ranges .now) (a .primitives .now) (a .lengths .now) (a .literals .now)
-    (sym (c .before .before .before .before .before .before .before .bad-quantities .ensures) ∙ c .before .before .before .before .before .before .if1 .left)
-    (sym (c .before .before .before .before .before .bad-lists .ensures) ∙ c .before .before .before .before .if2 .left)
-    (sym (c .before .before .before .bad-ranges .ensures) ∙ c .before .before .if3 .left)
-    (sym (c .before .bad-primitives .ensures) ∙ c .if4 .taken)
+    let k = c .before .before in
+    met-4 _ _ _ _ (no-quantities k) (no-lists k) (no-ranges k) (sym (c .before .bad-primitives .ensures) ∙ c .if4 .taken)
 
 bad-literals-requires : tie.Need-bad-literals-requires
-bad-literals-requires c κs = few-quantities (c .before .before .before .before .before .before .before .before .args .ranges .now) (sym (c .before .before .before .before .before .before .before .bad-quantities .ensures) ∙ c .before .before .before .before .before .before .if1 .left)
+bad-literals-requires c κs = few-quantities (c .before .before .before .before .before .before .before .before .args .ranges .now) (no-quantities (c .before .before))
 
 returns-5 : tie.Need-returns-5
 returns-5 c =
-    let a = c .before .before .before .before .before .before .before .before .before .before .args in
-    met-5 (a .ranges .now) (a .primitives .now) (a .lengths .now) (a .literals .now)
-    (sym (c .before .before .before .before .before .before .before .before .before .bad-quantities .ensures) ∙ c .before .before .before .before .before .before .before .before .if1 .left)
-    (sym (c .before .before .before .before .before .before .before .bad-lists .ensures) ∙ c .before .before .before .before .before .before .if2 .left)
-    (sym (c .before .before .before .before .before .bad-ranges .ensures) ∙ c .before .before .before .before .if3 .left)
-    (sym (c .before .before .before .bad-primitives .ensures) ∙ c .before .before .if4 .left)
-    (sym (c .before .bad-literals .ensures) ∙ c .if5 .taken)
+    let k = c .before .before .before .before in
+    met-5 _ _ _ _ (no-quantities k) (no-lists k) (no-ranges k) (sym (c .before .before .before .bad-primitives .ensures) ∙ c .before .before .if4 .left) (sym (c .before .bad-literals .ensures) ∙ c .if5 .taken)
 
 returns-6 : tie.Need-returns-6
 returns-6 c =
-    let a = c .before .before .before .before .before .before .before .before .before .before .args in
-    met-none (a .ranges .now) (a .primitives .now) (a .lengths .now) (a .literals .now)
-    (sym (c .before .before .before .before .before .before .before .before .before .bad-quantities .ensures) ∙ c .before .before .before .before .before .before .before .before .if1 .left)
-    (sym (c .before .before .before .before .before .before .before .bad-lists .ensures) ∙ c .before .before .before .before .before .before .if2 .left)
-    (sym (c .before .before .before .before .before .bad-ranges .ensures) ∙ c .before .before .before .before .if3 .left)
-    (sym (c .before .before .before .bad-primitives .ensures) ∙ c .before .before .if4 .left)
-    (sym (c .before .bad-literals .ensures) ∙ c .if5 .left)
+    let k = c .before .before .before .before in
+    met-none _ _ _ _ (no-quantities k) (no-lists k) (no-ranges k) (sym (c .before .before .before .bad-primitives .ensures) ∙ c .before .before .if4 .left) (sym (c .before .bad-literals .ensures) ∙ c .if5 .left)
 
 pub judge-spec : {M : Type 1} → statement M
 judge-spec =

@@ -9,11 +9,13 @@ use lib.ListN.{length, drop}
 use lib.IntN.{ℤ}
 use Rattle.problem.specs.Problem.{Box, quantities}
 use Rattle.problem.specs.Lists.{primitivesOf, literalsOf, clausesOf, problemOf}
-use Rattle.narrow.specs.Sweep.{Swept, empty, changed, unchanged, sweepOf}
+use Rattle.narrow.specs.Cuts.{Swept, empty, changed, unchanged}
+use Rattle.narrow.specs.Sweep.{sweepOf}
 use Rattle.narrow.specs.inner.Done.{sweptAs}
 use Rattle.narrow.specs.declared.Status.{Status}
+use Rattle.narrow.proofs.SweepLaws.{sweep-same}
+use Rattle.narrow.specs.Parts.{Part}
 use Rattle.search.specs.Search.{lowerPart, upperPart, lowest, searchOf}
-use Rattle.search.specs.inner.Laws.{Part}
 use Rattle.search.specs.declared.Open.{Open}
 use Rattle.search.specs.declared.Open.the-variants.{At}
 use Rattle.search.proofs.Held.{Frame, Held, slot-in, here-part, stopped-is, put-len, put-rest, none-is, held-one, held-changed, held-taken, held-same, same-here, found-is, can-split, next-in, next-small, two-long, first-is, held-split}
@@ -84,16 +86,19 @@ module _ (t : tie.After-enum-told3 Inv-loop μ-loop) where
   abbrev work-now : List ℤ
   work-now = putMid (loop-at .loop .waiting * length (rs loop-at)) (loop-at .loop .waiting * length (rs loop-at) + length (rs loop-at) - loop-at .loop .waiting * length (rs loop-at)) (loop-at .loop .work) (t .before .before .before .sweep .last .0)
 
+  is-same : unchanged (t .before .before .before .sweep .last .0) ≡ sweep loop-at (slot loop-at (loop-at .loop .work))
+  is-same = ap (λ (r : Status). sweptAs r (t .before .before .before .sweep .last .0)) (sym (t .enum-told3 .given .1)) ∙ t .before .before .before .sweep .ensures .says
+
   as-it-was : t .before .before .before .sweep .last .0 ≡ slot loop-at (loop-at .loop .work)
-  as-it-was = t .before .before .before .sweep .ensures .kept (t .enum-told3 .given .1)
+  as-it-was = sweep-same _ _ _ _ (sym is-same)
 
   held-now : Here loop-at work-now (suc (loop-at .loop .left - 1)) (loop-at .loop .waiting)
   held-now = held-same (frame-at loop-at) (one-less loop-at (t .before .before .before .before .before .if1 .left)) _ (t .before .before .before .sweep .kept .0) as-it-was
 
-  swept-now : sweep loop-at (slot loop-at work-now) ≡ unchanged
+  swept-now : sweep loop-at (slot loop-at work-now) ≡ unchanged (t .before .before .before .sweep .last .0)
   swept-now =
       ap (sweep loop-at) (same-here (frame-at loop-at) (one-less loop-at (t .before .before .before .before .before .if1 .left)) _ (t .before .before .before .sweep .kept .0) as-it-was)
-      ∙ sym (ap (λ (r : Status). sweptAs r (t .before .before .before .sweep .last .0)) (sym (t .enum-told3 .given .1)) ∙ t .before .before .before .sweep .ensures .says)
+      ∙ sym is-same
 
   -- the choice among the quantities of the slot is the choice among all
   chosen : (r : Open) → r ≡ lowest (quantities (slot loop-at work-now)) (slot loop-at work-now) → r ≡ lowest (quantities (rs loop-at)) (slot loop-at work-now)

@@ -1,49 +1,43 @@
 -- What the search asks of a sweep and of a choice, over the parts of the starting box. Room, cover, order and demand 2 are proved from these
 -- laws alone, whatever the sweep.
 use mathlib.Core.Path.{_≡_}
-use Prim.Native.Nat.{ℕ, _*_, _≤_, _<_}
-use lib.ListN.{length}
-use lib.Signed.{_≤ℤ_, _<ℤ_}
+use Prim.Native.Nat.{ℕ, _≤_, _<_}
+use lib.Signed.{_<ℤ_}
 use Rattle.whole.specs.Ranges.{Point}
 use Rattle.problem.specs.Problem.{Box, lowAt, highAt, Inside}
-use Rattle.narrow.specs.Sweep.{Swept, empty, changed, unchanged}
+use Rattle.narrow.specs.Cuts.{Swept, empty, changed, unchanged}
+use Rattle.narrow.specs.Parts.{Part}
 use Rattle.search.specs.declared.Open.{Open}
 use Rattle.search.specs.declared.Open.the-variants.{At, Closed}
-
--- b has n ranges, none of them empty, each inside that of a
-pub record Part (n : ℕ) (a b : Box) : Type 0 where
-  pub long : length b ≡ 2 * n
-  pub low : (q : ℕ) → q < n → lowAt a q ≤ℤ lowAt b q
-  pub filled : (q : ℕ) → q < n → lowAt b q ≤ℤ highAt b q
-  pub high : (q : ℕ) → q < n → highAt b q ≤ℤ highAt a q
 
 -- a changed box is inside the old one and has no empty range
 abbrev pub Shrinks : ℕ → Box → Swept → Type 0
 Shrinks n b empty = Unit {0}
 Shrinks n b (changed b′) = Part n b b′
-Shrinks n b unchanged = Unit {0}
+Shrinks n b (unchanged b′) = Unit {0}
 
 -- a point of the box that satisfies is not lost
 abbrev pub Stays : ℕ → Point → Swept → Type 0
 Stays n p empty = ⊥
 Stays n p (changed b′) = Inside n p b′
-Stays n p unchanged = Unit {0}
+Stays n p (unchanged b′) = Unit {0}
 
 -- for room, and all that the code needs
 pub record Lawful (sweep : Box → Swept) (choose : Box → Open) (n lead : ℕ) (start : Box) : Type 0 where
   pub shrinks : (b : Box) → Part n start b → Shrinks n b (sweep b)
   -- a quantity chosen in a box that a sweep left unchanged is a leading one and has more than one value
-  pub leads : (b : Box) (q : ℕ) → Part n start b → sweep b ≡ unchanged → choose b ≡ At q → q < lead
-  pub wide : (b : Box) (q : ℕ) → Part n start b → sweep b ≡ unchanged → choose b ≡ At q → lowAt b q <ℤ highAt b q
+  pub leads : (b b′ : Box) (q : ℕ) → Part n start b → sweep b ≡ unchanged b′ → choose b ≡ At q → q < lead
+  pub wide : (b b′ : Box) (q : ℕ) → Part n start b → sweep b ≡ unchanged b′ → choose b ≡ At q → lowAt b q <ℤ highAt b q
   pub leading : lead ≤ n
 
 -- for cover and none
-pub record Sound (sweep : Box → Swept) (n : ℕ) (start : Box) (Sat : Point → Type 0) : Type 0 where
+pub record Lossless (sweep : Box → Swept) (n : ℕ) (start : Box) (Sat : Point → Type 0) : Type 0 where
   pub keeps : (b : Box) → Part n start b → (p : Point) → Inside n p b → Sat p → Stays n p (sweep b)
 
 -- for floor, smallest and found
 pub record Ordered (sweep : Box → Swept) (choose : Box → Open) (n : ℕ) (start : Box) (Sat : Point → Type 0) : Type 0 where
   -- every quantity before the chosen one has one value
-  pub first : (b : Box) (q : ℕ) → Part n start b → sweep b ≡ unchanged → choose b ≡ At q → (r : ℕ) → r < q → lowAt b r ≡ highAt b r
+  pub first : (b b′ : Box) (q : ℕ) → Part n start b → sweep b ≡ unchanged b′ → choose b ≡ At q
+      → (r : ℕ) → r < q → lowAt b r ≡ highAt b r
   -- the low ends of an unchanged box with nothing to split satisfy
-  pub settled : (b : Box) → Part n start b → sweep b ≡ unchanged → choose b ≡ Closed → Sat (lowAt b)
+  pub settled : (b b′ : Box) → Part n start b → sweep b ≡ unchanged b′ → choose b ≡ Closed → Sat (lowAt b)

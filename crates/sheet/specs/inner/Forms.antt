@@ -11,9 +11,3 @@ declarationOf (some (default n)) = Plain n
 declarationOf (some (ranged n low high)) = Ranged n low high
 declarationOf (some (must d ds)) = No
 declarationOf (some (when c cs d ds)) = No
-
--- the line that a declaration stands for
-abbrev pub asLine : Declaration → Option Line
-asLine No = none
-asLine (Plain n) = some (default n)
-asLine (Ranged n low high) = some (ranged n low high)

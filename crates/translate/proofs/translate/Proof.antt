@@ -4,7 +4,7 @@ use native.Mathlib.Omega.{arith}
 use borrow.Author.Needs.{needs}
 use lib.Seq.{length-take-le}
 use Rattle.sheet.proofs.Places.{place-fits}
-use Rattle.translate.proofs.Opening.{lists-long, text-refused, first-refused, version-refused, lines-decide, refused-short, refused-text, translated-text}
+use Rattle.translate.proofs.TextCode.{lists-long, text-refused, first-refused, version-refused, lines-decide, refused-short, refused-text, translated-text}
 use Rattle.translate.proofs.translate.Statement.{statement}
 use Rattle.translate.proofs.translate.Tie as tie
 

@@ -12,12 +12,12 @@ use Rattle.sheet.specs.Reading.{Read}
 use Rattle.sheet.specs.inner.Steps.{tokensFrom}
 use Rattle.sheet.specs.declared.Token.{Token}
 use Rattle.sheet.specs.declared.Sign.{Sign}
-use Rattle.translate.specs.Plain.{Asked, plainE, opposite}
-use Rattle.translate.specs.Translation.{Turn, first, second}
+use Rattle.meaning.specs.Plain.{Asked, plainE, opposite}
+use Rattle.meaning.specs.Translation.{Turn, first, second}
 use Rattle.translate.specs.inner.Emission.{emitted, Listing, listAll}
-use Rattle.translate.specs.declared.Tally.{Tally}
-use Rattle.translate.specs.declared.Listed.{Listed}
-use Rattle.translate.specs.declared.Listed.the-variants.{At, Not}
+use Rattle.translate.specs.declared.parts.Tally.{Tally}
+use Rattle.translate.specs.declared.parts.Listed.{Listed}
+use Rattle.translate.specs.declared.parts.Listed.the-variants.{At, Not}
 
 -- which clause
 abbrev pub turnOf : Bool → Turn
@@ -49,6 +49,8 @@ listingAs l (At n t) rs ps fs ss = some (listingOf t rs ps fs ss, tokensFrom l n
 listingAs l Not rs ps fs ss = none
 
 -- the answer is the reading f, at every bound that is large enough, with what it asks listed; and a part that was read is not empty
-pub record Lists {A : Type 0} (f : ℕ → List Token → Read A) (asks : A → List Asked) (d : ℕ) (l : List ℕ) (at : ℕ) (a : Listing) (r : Listed) (rs ps fs ss : List ℤ) : Type 0 where
+pub record Lists
+    {A : Type 0} (f : ℕ → List Token → Read A) (asks : A → List Asked) (d : ℕ) (l : List ℕ) (at : ℕ) (a : Listing)
+    (r : Listed) (rs ps fs ss : List ℤ) : Type 0 where
   pub agrees : (k : ℕ) → 8 * length (tokensFrom l at) + 6 ≤ k → listingAs l r rs ps fs ss ≡ emitted (λ x. listAll d (asks x) a) (f k (tokensFrom l at))
   pub falls : (n : ℕ) (t : Tally) → r ≡ At n t → length (tokensFrom l n) < length (tokensFrom l at)

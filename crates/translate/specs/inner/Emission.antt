@@ -1,8 +1,8 @@
 -- For the code: what reading an expression writes into lists of fixed size. Everything is total: a number that has no place is not
 -- written, counts stop at a limit above every size that is accepted, and a range that cannot be computed with is replaced by [0, 0].
--- proofs/Emission.antt ties this to Translation.antt for sheets within the grounds.
+-- proofs/ExactPiece.antt ties this to Translation.antt for sheets within the grounds.
 use mathlib.Core.Path.{_≡_}
-use mathlib.Core.Bool.{Bool, cond, _||_}
+use mathlib.Core.Bool.{cond, _||_}
 use mathlib.Core.List.{List, [], _∷_}
 use mathlib.Core.Option.{Option, none, some}
 use Prim.Native.Nat.{ℕ, _+_, _*_, _≤_, _<_}
@@ -23,15 +23,15 @@ use Rattle.sheet.specs.Reading.{Read}
 use Rattle.sheet.specs.inner.Steps.{tokensFrom}
 use Rattle.sheet.specs.declared.Token.{Token}
 use Rattle.sheet.specs.declared.Sign.{Sign}
-use Rattle.translate.specs.Plain.{Operation, Tree, constant, quantity, binary, square, Asked, asksOf}
-use Rattle.translate.specs.Translation.{spanFor, equation, gapOf, first, second, literalsFor, equal}
-use Rattle.translate.specs.declared.Making.{Making}
-use Rattle.translate.specs.declared.Held.{Held}
-use Rattle.translate.specs.declared.Emitted.{Emitted}
-use Rattle.translate.specs.declared.Ruled.{Ruled}
-use Rattle.translate.specs.declared.Ruled.the-variants.{Done, Unread}
-use Rattle.translate.specs.declared.Made.{Made}
-use Rattle.translate.specs.declared.Made.the-variants.{At, Not}
+use Rattle.meaning.specs.Plain.{Operation, Tree, constant, quantity, binary, square, Asked, asksOf}
+use Rattle.meaning.specs.Translation.{spanFor, equation, gapOf, first, second, literalsFor, equal}
+use Rattle.translate.specs.declared.parts.Making.{Making}
+use Rattle.translate.specs.declared.parts.Held.{Held}
+use Rattle.translate.specs.declared.parts.Emitted.{Emitted}
+use Rattle.translate.specs.declared.parts.Ruled.{Ruled}
+use Rattle.translate.specs.declared.parts.Ruled.the-variants.{Done, Unread}
+use Rattle.translate.specs.declared.parts.Made.{Made}
+use Rattle.translate.specs.declared.parts.Made.the-variants.{At, Not}
 
 -- one more, up to the limit
 abbrev pub bump : ℕ → ℕ
@@ -134,7 +134,9 @@ madeAs l Not rs ps = none
 abbrev pub GoodHeld : Held → Type 0
 GoodHeld h = Good (h .span)
 
-pub record Makes {A : Type 0} (f : ℕ → List Token → Read A) (plain : A → Tree) (rank d : ℕ) (l : List ℕ) (at : ℕ) (m : Making) (rs ps : List ℤ) (r : Made) (rs′ ps′ : List ℤ) : Type 0 where
+pub record Makes
+    {A : Type 0} (f : ℕ → List Token → Read A) (plain : A → Tree) (rank d : ℕ) (l : List ℕ) (at : ℕ) (m : Making) (rs ps : List ℤ)
+    (r : Made) (rs′ ps′ : List ℤ) : Type 0 where
   pub agrees : (k : ℕ) → 8 * length (tokensFrom l at) + rank ≤ k → madeAs l r rs′ ps′ ≡ emitted (λ a. emit d (plain a) rs ps m) (f k (tokensFrom l at))
   pub falls : (n : ℕ) (h : Held) (m′ : Making) → r ≡ At n h m′ → length (tokensFrom l n) < length (tokensFrom l at)
   pub good : (n : ℕ) (h : Held) (m′ : Making) → r ≡ At n h m′ → GoodHeld h

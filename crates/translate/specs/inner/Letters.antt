@@ -3,7 +3,7 @@ use mathlib.Core.Path.{_≡_}
 use mathlib.Core.List.{List}
 use Prim.Native.Nat.{ℕ}
 use lib.ListN.{length}
-use Rattle.translate.specs.Lists.{lettersOf}
+use Rattle.meaning.specs.Lists.{lettersOf}
 use Rattle.translate.specs.Translate.{filled}
 
 pub record Letters (k most : ℕ) (old new : List ℕ) (n : ℕ) : Type 0 where

@@ -12,22 +12,22 @@ use Rattle.whole.specs.inner.Held.{Good}
 use Rattle.sheet.specs.Grammar.{Line}
 use Rattle.sheet.specs.Reading.{«whole», allF, asMust, thenOf}
 use Rattle.sheet.specs.declared.Token.{Token}
-use Rattle.translate.specs.Translation.{nothing}
-use Rattle.translate.specs.Lists.{rangeList, primitiveList, lengthList, literalsIn, literalList, nameBytes}
-use Rattle.translate.specs.Sheet.{Sheet, quantitiesIn}
-use Rattle.translate.specs.Grounds.{Outcome, refused, read, topOf, lineOutcome, oneLine}
+use Rattle.meaning.specs.Translation.{nothing}
+use Rattle.meaning.specs.Lists.{rangeList, primitiveList, lengthList, literalsIn, literalList, nameBytes}
+use Rattle.meaning.specs.Draft.{Draft, quantitiesIn}
+use Rattle.meaning.specs.Grounds.{Outcome, refused, read, topOf, lineOutcome, oneLine}
 use Rattle.translate.specs.Translate.{resultOf, into}
-use Rattle.translate.specs.declared.Making.{Making}
-use Rattle.translate.specs.declared.Progress.{Progress}
-use Rattle.translate.specs.declared.Lined.{Lined}
-use Rattle.translate.specs.declared.Lined.the-variants as lined
-use Rattle.translate.specs.declared.Walked.{Walked}
-use Rattle.translate.specs.declared.Walked.the-variants as walked
+use Rattle.translate.specs.declared.parts.Making.{Making}
+use Rattle.translate.specs.declared.parts.Progress.{Progress}
+use Rattle.translate.specs.declared.parts.Lined.{Lined}
+use Rattle.translate.specs.declared.parts.Lined.the-variants as lined
+use Rattle.translate.specs.declared.parts.Walked.{Walked}
+use Rattle.translate.specs.declared.parts.Walked.the-variants as walked
 use Rattle.translate.specs.declared.Translated.{Translated}
 
 -- ---- what is held
 -- the lists' fronts are the sheet's, with the counts of a progress
-pub record Stored (s : Sheet) (g : Progress) (rs ps ns ls : List ℤ) (keys : List ℕ) : Type 0 where
+pub record Stored (s : Draft) (g : Progress) (rs ps ns ls : List ℤ) (keys : List ℕ) : Type 0 where
   pub declared : g .declared ≡ length (s .names)
   pub alike : length (s .declared) ≡ length (s .names)
   pub quantities : g .quantities ≡ quantitiesIn s
@@ -43,7 +43,7 @@ pub record Stored (s : Sheet) (g : Progress) (rs ps ns ls : List ℤ) (keys : Li
   pub few : g .quantities ≤ 128
 
 -- what every sheet that is read has
-pub record Proper (s : Sheet) : Type 0 where
+pub record Proper (s : Draft) : Type 0 where
   pub good : AllOf Good (s .declared)
   pub primitives : length (s .made .primitives) ≤ length (s .made .ranges)
   pub clauses : length (s .made .clauses) ≤ 2 * length (s .made .ranges)
@@ -61,17 +61,17 @@ pub record Full (rs ps ns ls : List ℤ) (keys : List ℕ) : Type 0 where
 
 -- some sheet is held
 pub record Standing (g : Progress) (rs ps ns ls : List ℤ) (keys : List ℕ) : Type 0 where
-  pub sheet : Sheet
-  pub stored : Stored sheet g rs ps ns ls keys
-  pub proper : Proper sheet
+  pub draft : Draft
+  pub stored : Stored draft g rs ps ns ls keys
+  pub proper : Proper draft
   pub full : Full rs ps ns ls keys
 
 -- the outcome is a sheet, and the lists hold it
 pub record Holds (o : Outcome) (g : Progress) (rs ps ns ls : List ℤ) (keys : List ℕ) : Type 0 where
-  pub sheet : Sheet
-  pub outcome : o ≡ read sheet
-  pub stored : Stored sheet g rs ps ns ls keys
-  pub proper : Proper sheet
+  pub draft : Draft
+  pub outcome : o ≡ read draft
+  pub stored : Stored draft g rs ps ns ls keys
+  pub proper : Proper draft
 
 -- ---- a line
 -- what the answer to line k says of its outcome
@@ -80,15 +80,17 @@ LineSays k o rs ps ns ls keys (lined.Next g) = Holds o g rs ps ns ls keys
 LineSays k o rs ps ns ls keys (lined.Refused g) = o ≡ refused g k
 
 -- the answer to a line, whatever sheet was held before it and whatever its number; f gives the outcome
-pub record Answers (f : Sheet → ℕ → Outcome) (g : Progress) (rs₀ ps₀ ns₀ ls₀ : List ℤ) (keys₀ : List ℕ) (rs ps ns ls : List ℤ) (keys : List ℕ) (r : Lined) : Type 0 where
-  pub says : (s : Sheet) (k : ℕ) → Stored s g rs₀ ps₀ ns₀ ls₀ keys₀ → Proper s → LineSays k (f s k) rs ps ns ls keys r
+pub record Answers
+    (f : Draft → ℕ → Outcome) (g : Progress) (rs₀ ps₀ ns₀ ls₀ : List ℤ) (keys₀ : List ℕ) (rs ps ns ls : List ℤ) (keys : List ℕ) (r : Lined)
+    : Type 0 where
+  pub says : (s : Draft) (k : ℕ) → Stored s g rs₀ ps₀ ns₀ ls₀ keys₀ → Proper s → LineSays k (f s k) rs ps ns ls keys r
 
 -- the outcome of a line
-abbrev pub lineBy : List ℕ → Sheet → ℕ → Outcome
+abbrev pub lineBy : List ℕ → Draft → ℕ → Outcome
 lineBy line s k = oneLine (topOf 1) s k line
 
 -- of a tree, where there is one
-abbrev pub treeBy : Option Line → Sheet → ℕ → Outcome
+abbrev pub treeBy : Option Line → Draft → ℕ → Outcome
 treeBy o s k = lineOutcome (topOf 1) s k o
 
 -- the tokens behind `if`, or behind `must`, as a rule
@@ -153,5 +155,7 @@ pub record Gives (o : Outcome) (rs₀ ps₀ ns₀ ls₀ : List ℤ) (bytes₀ : 
   pub names : bytes ≡ into o (λ s. nameBytes (s .names)) bytes₀
 
 -- the caller's lists are filled with any sheet that is held
-pub record Accepts (g : Progress) (rs ps ns ls : List ℤ) (keys : List ℕ) (rs₀ ps₀ ns₀ ls₀ : List ℤ) (bytes₀ : List ℕ) (rs₁ ps₁ ns₁ ls₁ : List ℤ) (bytes₁ : List ℕ) (r : Translated) : Type 0 where
-  pub gives : (s : Sheet) → Stored s g rs ps ns ls keys → Gives (read s) rs₀ ps₀ ns₀ ls₀ bytes₀ rs₁ ps₁ ns₁ ls₁ bytes₁ r
+pub record Accepts
+    (g : Progress) (rs ps ns ls : List ℤ) (keys : List ℕ) (rs₀ ps₀ ns₀ ls₀ : List ℤ) (bytes₀ : List ℕ)
+    (rs₁ ps₁ ns₁ ls₁ : List ℤ) (bytes₁ : List ℕ) (r : Translated) : Type 0 where
+  pub gives : (s : Draft) → Stored s g rs ps ns ls keys → Gives (read s) rs₀ ps₀ ns₀ ls₀ bytes₀ rs₁ ps₁ ns₁ ls₁ bytes₁ r

@@ -2,7 +2,8 @@
 use lib.IntN.{pos, _+ℤ_}
 use lib.Signed.{shrZ}
 use Rattle.whole.proofs.Kit.{ints, plus, half, halves, near-sum}
-use Rattle.whole.proofs.Meaning.{Middle, middle-only}
+use Rattle.whole.specs.Meaning.{Middle}
+use Rattle.whole.proofs.Meaning.{middle-only}
 use Rattle.whole.proofs.middle.Statement.{statement}
 use Rattle.whole.proofs.middle.Tie as tie
 

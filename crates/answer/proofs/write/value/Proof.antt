@@ -2,7 +2,7 @@
 use mathlib.Core.Path.{_∙_}
 use lib.IntN.{pos, _+ℤ_, _-ℤ_}
 use lib.Signed.{_≤ℤ_, _<ℤ_}
-use Rattle.whole.proofs.Kit.{ints, at, Holds, rd, lit, sum, dif, cast, cast-is, plus, minus, apart, fits-N}
+use Rattle.whole.proofs.Kit.{ints, at, Holds, rd, lit, sum, dif, cast, cast-is, plus, minus, apart, fits-negative}
 use Rattle.answer.proofs.Writing.{puts-as, puts-then}
 use Rattle.answer.proofs.Decimal.{value-up, value-down}
 use Rattle.answer.proofs.write.value.Statement.{statement}
@@ -37,13 +37,13 @@ nearer : (c : tie.Else1) → Holds (at (c .before .before .args .z) +ℤ pos 1) 
 nearer c =
     let z = c .before .before .args .z in
     let h = down c in
-    sum (rd (c .before .before .fits .z)) (lit (pos 1)) (omega (ints, plus z (pos 1), fits-N z (c .before .before .fits .z)))
+    sum (rd (c .before .before .fits .z)) (lit (pos 1)) (omega (ints, plus z (pos 1), fits-negative z (c .before .before .fits .z)))
 
 turned : (c : tie.Else1) → Holds (pos 0 -ℤ at (at (c .before .before .args .z) +ℤ pos 1)) (pos 0 -ℤ (c .before .before .args .z +ℤ pos 1))
 turned c =
     let z = c .before .before .args .z in
     let h = down c in
-    dif (lit (pos 0)) (nearer c .is) (omega (ints, plus z (pos 1), minus (pos 0) (z +ℤ pos 1), fits-N z (c .before .before .fits .z)))
+    dif (lit (pos 0)) (nearer c .is) (omega (ints, plus z (pos 1), minus (pos 0) (z +ℤ pos 1), fits-negative z (c .before .before .fits .z)))
 
 above : (c : tie.Else1) → pos 0 ≤ℤ (pos 0 -ℤ (c .before .before .args .z +ℤ pos 1))
 above c = let z = c .before .before .args .z in let h = down c in omega (ints, plus z (pos 1), minus (pos 0) (z +ℤ pos 1))
@@ -66,7 +66,7 @@ add-number-2 c =
     let z = b .before .before .args .z in
     let h = down b in
     let e = cast-is (turned b) (above b) in
-    record { fits = omega (ints, plus z (pos 1), minus (pos 0) (z +ℤ pos 1), apart (pos 0 -ℤ (z +ℤ pos 1)), fits-N z (b .before .before .fits .z)) }
+    record { fits = omega (ints, plus z (pos 1), minus (pos 0) (z +ℤ pos 1), apart (pos 0 -ℤ (z +ℤ pos 1)), fits-negative z (b .before .before .fits .z)) }
 
 number-requires-2 : tie.Need-number-requires-2
 number-requires-2 c κs = tt

@@ -1,5 +1,5 @@
 -- y that holds 0 leaves x, y above 0 moves no end of it, and y below 0 cuts it to the quotients.
-use mathlib.Core.Path.{_≡_, refl, sym, ap, ap₂, subst, _∙_}
+use mathlib.Core.Path.{refl, ap₂, subst, _∙_}
 use mathlib.Core.Logic.{⊎-elim}
 use lib.IntN.{pos}
 use lib.Signed.{_≤ℤ_, _<ℤ_}

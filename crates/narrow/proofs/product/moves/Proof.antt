@@ -6,7 +6,7 @@ use mathlib.Core.Path.{_≡_, refl, sym, ap, ap₂, _∙_}
 use lib.IntN.{ℤ, pos, _*ℤ_}
 use lib.Signed.{ltZ, _<ℤ_}
 use Rattle.problem.specs.Problem.{rangeAt}
-use Rattle.whole.proofs.Kit.{ints, nears, got, rn}
+use Rattle.whole.proofs.Kit.{ints, nears, rn}
 use borrow.Author.Needs.{needs}
 use Rattle.narrow.proofs.Divided.{Least, least-low, least-high, Greatest, greatest-high, greatest-low, least-divides, greatest-divides, moves-not, moves-low, moves-high, moves-read}
 use Rattle.narrow.proofs.product.moves.Statement.{statement}

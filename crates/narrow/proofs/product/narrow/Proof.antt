@@ -57,14 +57,14 @@ module _ (c : tie.Joined1) where
   abbrev box : Box
   box = start .args .b .now
 
-  not-gone : c .before .before .before .before .before .cut-product .result ≡ Empty → ⊥
-  not-gone = not-empty (c .before .before .before .before .before .cut-product .result) (c .before .before .before .match .keys2)
+  not-empty-now : c .before .before .before .before .before .cut-product .result ≡ Empty → ⊥
+  not-empty-now = not-empty (c .before .before .before .before .before .cut-product .result) (c .before .before .before .match .keys2)
 
   two-done : Done (productStep (start .args .z) (start .args .x) (start .args .y) ∷ quotientStep (start .args .x) (start .args .z) (start .args .y) ∷ []) (start .args .prior) box (c .if1 .second) (c .if1 .b)
   two-done =
       let first = c .before .before .before .before .before .cut-product in
       ⊎-elim
-      (λ w. done-at (sym (w .4)) (sym (w .5)) (done-then (first .ensures) (w .2 .ensures (first .result) not-gone)))
+      (λ w. done-at (sym (w .4)) (sym (w .5)) (done-then (first .ensures) (w .2 .ensures (first .result) not-empty-now)))
       (λ w. done-at (sym (w .4)) (sym (w .5)) (done-then (first .ensures) (w .2 .ensures)))
       (c .if1 .came)
 

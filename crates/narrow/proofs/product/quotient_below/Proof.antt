@@ -2,11 +2,11 @@
 use mir.Val.{toZ}
 use mir.Syntax.{w64}
 use mathlib.Core.Logic.{⊎-elim}
-use mathlib.Core.Path.{_≡_, ap, _∙_}
-use lib.IntN.{ℤ, pos, negℤ}
+use mathlib.Core.Path.{ap, _∙_}
+use lib.IntN.{ℤ, negℤ}
 use Rattle.whole.specs.Numbers.{floorQ, ceilQ}
 use Rattle.whole.proofs.Spans.{ends-is}
-use Rattle.whole.proofs.Kit.{ints, nears, got, rn, neg-P, neg-N}
+use Rattle.whole.proofs.Kit.{ints, nears, got, rn, neg-positive, neg-negative}
 use Rattle.narrow.proofs.Divided.{turned, Least, least-low, least-high, Greatest, greatest-high, greatest-low, least-below, greatest-below, least-below-divides, greatest-below-divides}
 use Rattle.narrow.proofs.product.quotient_below.Statement.{statement}
 use Rattle.narrow.proofs.product.quotient_below.Tie as tie
@@ -17,8 +17,8 @@ least-picked c =
     let z = s .args .z .high in
     let r = rn z (s .pre .0 .high) in
     ⊎-elim
-    (λ w. let t = w .0 .taken in least-low (omega (ints, neg-P z, neg-N z)) (ap negℤ (ap (toZ w64) (w .2) ∙ rn (s .args .y .high) (s .pre .1 .0 .high))))
-    (λ w. let t = w .0 .left in least-high (omega (ints, neg-P z, neg-N z)) (ap negℤ (ap (toZ w64) (w .2) ∙ rn (s .args .y .low) (s .pre .1 .0 .low))))
+    (λ w. let t = w .0 .taken in least-low (omega (ints, neg-positive z, neg-negative z)) (ap negℤ (ap (toZ w64) (w .2) ∙ rn (s .args .y .high) (s .pre .1 .0 .high))))
+    (λ w. let t = w .0 .left in least-high (omega (ints, neg-positive z, neg-negative z)) (ap negℤ (ap (toZ w64) (w .2) ∙ rn (s .args .y .low) (s .pre .1 .0 .low))))
     (c .if1 .came)
 
 greatest-picked : (c : tie.Joined2) → Greatest (turned (c .before .before .before .before .before .before .args .z)) (turned (c .before .before .before .before .before .before .args .y)) (negℤ (toZ w64 (c .if2 .greatest)))
@@ -27,8 +27,8 @@ greatest-picked c =
     let z = s .args .z .low in
     let r = rn z (s .pre .0 .low) in
     ⊎-elim
-    (λ w. let t = w .0 .taken in greatest-high (omega (ints, neg-P z, neg-N z)) (ap negℤ (ap (toZ w64) (w .2) ∙ rn (s .args .y .low) (s .pre .1 .0 .low))))
-    (λ w. let t = w .0 .left in greatest-low (omega (ints, neg-P z, neg-N z)) (ap negℤ (ap (toZ w64) (w .2) ∙ rn (s .args .y .high) (s .pre .1 .0 .high))))
+    (λ w. let t = w .0 .taken in greatest-high (omega (ints, neg-positive z, neg-negative z)) (ap negℤ (ap (toZ w64) (w .2) ∙ rn (s .args .y .low) (s .pre .1 .0 .low))))
+    (λ w. let t = w .0 .left in greatest-low (omega (ints, neg-positive z, neg-negative z)) (ap negℤ (ap (toZ w64) (w .2) ∙ rn (s .args .y .high) (s .pre .1 .0 .high))))
     (c .if2 .came)
 
 ceiling-requires : tie.Need-ceiling-requires

@@ -14,7 +14,7 @@ returns : tie.Need-returns
 returns c =
     let l = c .before .before .args .line .now in
     let at = c .before .before .args .at in
-    (ap (λ (s : Step). s .token) (c .step-at .ensures) ∙ next-head l at, ap (λ (s : Step). tokensFrom l (s .next)) (c .step-at .ensures) ∙ next-rest l at)
+    (ap (λ (s : Step). s .token) (c .step-at .ensures) ∙ next-head l at, ap (λ (s : Step). tokensFrom l (s .next)) (c .step-at .ensures) ∙ next-rest l at, c .step-at .ensures)
 
 pub next-spec : {M : Type 1} → statement M
 next-spec = tie.close (tie.spec step-at-requires returns)

@@ -9,9 +9,9 @@ use Rattle.sheet.specs.inner.Steps.{tokensFrom}
 use Rattle.sheet.specs.Reading.{sumF, prodF}
 use Rattle.sheet.proofs.tokens.kind.Reads as kind-reads
 use Rattle.sheet.proofs.tokens.next.Reads as next-reads
-use Rattle.translate.specs.Plain.{plainE, plainT}
-use Rattle.translate.proofs.Readings.{number-small, longer, head-kind}
-use Rattle.translate.proofs.Makings.{sum-turn, prod-turn, Going, start, expr-no, expr-on, sum-end, sum-no, term-no, term-on, prod-end, prod-no, factor-no, factor-square, factor-bare, atom-number, atom-name, atom-none, atom-unread, atom-unclosed, atom-close}
+use Rattle.meaning.specs.Plain.{plainE, plainT}
+use Rattle.translate.proofs.FirstTokens.{number-small, longer, head-kind}
+use Rattle.translate.proofs.ExpressionCode.{sum-turn, prod-turn, Going, start, expr-no, expr-on, sum-end, sum-no, term-no, term-on, prod-end, prod-no, factor-no, factor-square, factor-bare, atom-number, atom-name, atom-none, atom-unread, atom-unclosed, atom-close}
 use Rattle.translate.proofs.expression.+atom+expr+factor+term.{statement}
 use Rattle.translate.proofs.expression.+atom+expr+factor+term.Tie.{close}
 use Rattle.translate.proofs.expression.atom.Reads as atom

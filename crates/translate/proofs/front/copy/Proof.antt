@@ -7,7 +7,7 @@ use lib.ListN.{length, take, length-set}
 use borrow.Author.Needs.{needs}
 use Rattle.whole.proofs.Kit.{got}
 use Rattle.translate.specs.Translate.{filled}
-use Rattle.translate.proofs.Fills.{copy-next, copy-done}
+use Rattle.translate.proofs.Filling.{copy-next, copy-done}
 use Rattle.translate.proofs.front.copy.Statement.{statement}
 use Rattle.translate.proofs.front.copy.Tie as tie
 

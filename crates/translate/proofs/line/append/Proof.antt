@@ -3,14 +3,11 @@ use mathlib.Core.Path.{sym}
 use Prim.Native.Nat.{_*_}
 use lib.ListN.{length-set, length-take, length-drop}
 use lib.Seq.{length-take-le}
-use Rattle.translate.proofs.Appending.{append-one, append-two}
+use Rattle.translate.proofs.ClauseCode.{append-one, append-two}
 use native.Mathlib.Omega.{arith}
 use borrow.Author.Needs.{needs}
 use Rattle.translate.proofs.line.append.Statement.{statement}
 use Rattle.translate.proofs.line.append.Tie as tie
-use Rattle.translate.proofs.line.append.Reads as reads
-use Rattle.translate.proofs.line.append.Lts as lts
-use Rattle.translate.proofs.front.copy.Reads as copy-reads
 
 cast-size : tie.Need-cast-size
 cast-size c = search needs

@@ -3,7 +3,7 @@ use mathlib.Core.Path.{refl, sym}
 use native.Mathlib.Omega.{arith}
 use lib.Seq.{length-take-le}
 use borrow.Author.Needs.{needs}
-use Rattle.translate.proofs.Declaring.{order-told, declare-late, declare-twice, declare-order, declare-many, declare-next}
+use Rattle.translate.proofs.RangeLineCode.{order-told, declare-late, declare-twice, declare-order, declare-many, declare-next}
 use Rattle.translate.proofs.line.declare.Statement.{statement}
 use Rattle.translate.proofs.line.declare.Tie as tie
 

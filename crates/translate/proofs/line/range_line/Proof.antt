@@ -4,7 +4,7 @@ use borrow.Author.Needs.{needs}
 use Rattle.sheet.specs.Reading.{readRange}
 use Rattle.sheet.specs.inner.Steps.{tokensFrom}
 use Rattle.sheet.proofs.Contents.{proper-from}
-use Rattle.translate.proofs.Declaring.{near-at, no-declaration, range-near, says-ranged, says-plain, says-none}
+use Rattle.translate.proofs.RangeLineCode.{near-at, no-declaration, range-near, says-ranged, says-plain, says-none}
 use Rattle.translate.proofs.line.range_line.Statement.{statement}
 use Rattle.translate.proofs.line.range_line.Tie as tie
 

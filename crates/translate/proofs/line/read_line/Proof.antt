@@ -1,8 +1,7 @@
 -- Each way out is one law of Lining.antt: too deep, a range line, a rule, or none of the forms.
 use mathlib.Core.Path.{sym, ap, _∙_}
 use Rattle.sheet.specs.declared.Token.the-variants.{Fixed}
-use Rattle.translate.proofs.Lining.{line-deep, line-range, line-must, line-if, line-other, not-fixed, other-mark}
-use native.Mathlib.Omega.{arith}
+use Rattle.translate.proofs.LineCode.{line-deep, line-range, line-must, line-if, line-other, not-fixed, other-mark}
 use borrow.Author.Needs.{needs}
 use Rattle.translate.proofs.line.read_line.Statement.{statement}
 use Rattle.translate.proofs.line.read_line.Tie as tie
@@ -24,9 +23,10 @@ enum-known-token c = search needs
 returns-2 : tie.Need-returns-2
 returns-2 c =
     let s = c .before .before .before .before .before .before in
+    let n = c .before .next in
     line-other (s .args .line .now) (s .args .done) (s .args .ranges .now) (s .args .primitives .now) (s .args .lengths .now) (s .args .literals .now) (s .args .keys .now) _ _ _ _ _
-    (sym (c .before .before .before .deep .ensures) ∙ c .before .before .if1 .left) (c .before .next .result .token) (c .before .next .result .next) (c .before .next .ensures)
-    (not-fixed (c .before .next .result .token) (c .match .keys2))
+    (sym (c .before .before .before .deep .ensures) ∙ c .before .before .if1 .left) (n .result .token) (n .result .next) (n .ensures .0, n .ensures .1)
+    (not-fixed (n .result .token) (c .match .keys2))
 
 enum-told : tie.Need-enum-told
 enum-told c = search needs
@@ -55,8 +55,9 @@ same-length-2 c = search needs
 returns-3 : tie.Need-returns-3
 returns-3 c =
     let s = c .before .before .before .before .before .before .before .before .before .before .before .before .before .before .before .before in
+    let n = c .before .before .before .before .before .before .before .before .before .before .before .next in
     line-range (s .args .line .now) (s .args .done) (s .args .ranges .now) (s .args .primitives .now) (s .args .lengths .now) (s .args .literals .now) (s .args .keys .now) _ _ _ _ _
-    (sym (c .before .before .before .before .before .before .before .before .before .before .before .before .before .deep .ensures) ∙ c .before .before .before .before .before .before .before .before .before .before .before .before .if1 .left) (c .before .before .before .before .before .before .before .before .before .before .before .next .result .token) (c .before .before .before .before .before .before .before .before .before .before .before .next .result .next) (c .before .before .before .before .before .before .before .before .before .before .before .next .ensures)
+    (sym (c .before .before .before .before .before .before .before .before .before .before .before .before .before .deep .ensures) ∙ c .before .before .before .before .before .before .before .before .before .before .before .before .if1 .left) (n .result .token) (n .result .next) (n .ensures .0, n .ensures .1)
     (c .before .before .before .range-line .result) (c .before .before .before .before .before .before .before .before .before .token .given .1 ∙ ap Fixed (c .before .before .before .before .before .before .enum-told .given .1)) (c .before .before .before .range-line .ensures (s .args .primitives .now) (s .args .lengths .now) (s .args .literals .now))
 
 same-length-3 : tie.Need-same-length-3
@@ -77,8 +78,9 @@ same-length-7 c = search needs
 returns-4 : tie.Need-returns-4
 returns-4 c =
     let s = c .before .before .before .before .before .before .before .before .before .before .before .before .before .before .before .before .before .before .before .before in
+    let n = c .before .before .before .before .before .before .before .before .before .before .before .before .before .before .before .next in
     line-must (s .args .line .now) (s .args .done) (s .args .ranges .now) (s .args .primitives .now) (s .args .lengths .now) (s .args .literals .now) (s .args .keys .now) _ _ _ _ _
-    (sym (c .before .before .before .before .before .before .before .before .before .before .before .before .before .before .before .before .before .deep .ensures) ∙ c .before .before .before .before .before .before .before .before .before .before .before .before .before .before .before .before .if1 .left) (c .before .before .before .before .before .before .before .before .before .before .before .before .before .before .before .next .result .token) (c .before .before .before .before .before .before .before .before .before .before .before .before .before .before .before .next .result .next) (c .before .before .before .before .before .before .before .before .before .before .before .before .before .before .before .next .ensures)
+    (sym (c .before .before .before .before .before .before .before .before .before .before .before .before .before .before .before .before .before .deep .ensures) ∙ c .before .before .before .before .before .before .before .before .before .before .before .before .before .before .before .before .if1 .left) (n .result .token) (n .result .next) (n .ensures .0, n .ensures .1)
     (c .before .before .before .before .rule-line .result) (c .before .before .before .before .before .before .before .before .before .before .before .before .before .token .given .1 ∙ ap Fixed (c .before .before .before .before .before .before .before .before .before .before .enum-told2 .given .1)) (c .before .before .before .before .rule-line .ensures)
 
 same-length-8 : tie.Need-same-length-8
@@ -99,15 +101,17 @@ same-length-12 c = search needs
 returns-5 : tie.Need-returns-5
 returns-5 c =
     let s = c .before .before .before .before .before .before .before .before .before .before .before .before .before .before .before .before .before .before .before .before in
+    let n = c .before .before .before .before .before .before .before .before .before .before .before .before .before .before .before .next in
     line-if (s .args .line .now) (s .args .done) (s .args .ranges .now) (s .args .primitives .now) (s .args .lengths .now) (s .args .literals .now) (s .args .keys .now) _ _ _ _ _
-    (sym (c .before .before .before .before .before .before .before .before .before .before .before .before .before .before .before .before .before .deep .ensures) ∙ c .before .before .before .before .before .before .before .before .before .before .before .before .before .before .before .before .if1 .left) (c .before .before .before .before .before .before .before .before .before .before .before .before .before .before .before .next .result .token) (c .before .before .before .before .before .before .before .before .before .before .before .before .before .before .before .next .result .next) (c .before .before .before .before .before .before .before .before .before .before .before .before .before .before .before .next .ensures)
+    (sym (c .before .before .before .before .before .before .before .before .before .before .before .before .before .before .before .before .before .deep .ensures) ∙ c .before .before .before .before .before .before .before .before .before .before .before .before .before .before .before .before .if1 .left) (n .result .token) (n .result .next) (n .ensures .0, n .ensures .1)
     (c .before .before .before .before .rule-line2 .result) (c .before .before .before .before .before .before .before .before .before .before .before .before .before .token .given .1 ∙ ap Fixed (c .before .before .before .before .before .before .before .before .before .before .enum-told3 .given .1)) (c .before .before .before .before .rule-line2 .ensures)
 
 returns-6 : tie.Need-returns-6
 returns-6 c =
     let s = c .before .before .before .before .before .before .before .before .before in
+    let n = c .before .before .before .before .next in
     line-other (s .args .line .now) (s .args .done) (s .args .ranges .now) (s .args .primitives .now) (s .args .lengths .now) (s .args .literals .now) (s .args .keys .now) _ _ _ _ _
-    (sym (c .before .before .before .before .before .before .deep .ensures) ∙ c .before .before .before .before .before .if1 .left) (c .before .before .before .before .next .result .token) (c .before .before .before .before .next .result .next) (c .before .before .before .before .next .ensures)
+    (sym (c .before .before .before .before .before .before .deep .ensures) ∙ c .before .before .before .before .before .if1 .left) (n .result .token) (n .result .next) (n .ensures .0, n .ensures .1)
     (rw (c .before .before .token .given .1) (other-mark (c .before .before .token .given .0 .0) (c .match2 .keys4)))
 
 pub read-line-spec : {M : Type 1} → statement M

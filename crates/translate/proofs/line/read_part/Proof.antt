@@ -1,6 +1,6 @@
 -- Each branch is the reading that its flag says.
 use borrow.Author.Needs.{needs}
-use Rattle.translate.proofs.Ruling.{rules-if, rules-must}
+use Rattle.translate.proofs.RuleLineCode.{rules-if, rules-must}
 use Rattle.translate.proofs.line.read_part.Statement.{statement}
 use Rattle.translate.proofs.line.read_part.Tie as tie
 

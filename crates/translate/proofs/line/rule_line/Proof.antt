@@ -5,16 +5,12 @@ use native.Mathlib.Nat.{le-refl}
 use lib.ListN.{length}
 use lib.Seq.{length-take-le}
 use Rattle.sheet.specs.inner.Steps.{tokensFrom}
-use Rattle.translate.proofs.Handing.{room}
-use Rattle.translate.proofs.Ruling.{rule-unread, rule-names, rule-equalities, rule-beyond, rule-many, rule-room, rule-next}
+use Rattle.translate.proofs.AcceptCode.{room}
+use Rattle.translate.proofs.RuleLineCode.{rule-unread, rule-names, rule-equalities, rule-beyond, rule-many, rule-room, rule-next}
 use native.Mathlib.Omega.{arith}
 use borrow.Author.Needs.{needs}
 use Rattle.translate.proofs.line.rule_line.Statement.{statement}
 use Rattle.translate.proofs.line.rule_line.Tie as tie
-use Rattle.translate.proofs.line.rule_line.Reads as reads
-use Rattle.translate.proofs.line.rule_line.Lts as lts
-use Rattle.translate.proofs.line.append.Reads as append-reads
-use Rattle.translate.proofs.line.read_part.Reads as read-part-reads
 
 mul-start : tie.Need-mul-start
 mul-start c = search needs
@@ -126,7 +122,7 @@ append-requires c κs =
     let s = c .before .before .before .before .before .before .before .before .before .before .before .before .before .before .before .before .before .before .before .before .before .before .before .before in
     let n = 8 * length (tokensFrom (s .args .line .now) (s .args .at)) + 8 in
     let l : n ≤ n = le-refl n in
-    rule-room (s .args .conditional) (tokensFrom (s .args .line .now) (s .args .at)) (s .args .done) (s .args .ranges .now) (s .args .primitives .now) (s .args .lengths .now) (s .args .literals .now) (s .args .keys .now) _ (s .pre .full) refl (c .before .before .before .before .before .before .before .before .before .ruled .given .0 .0) (c .before .before .before .before .before .before .before .before .before .ruled .given .0 .1 .0) (c .before .before .before .before .before .before .before .before .before .ruled .given .0 .1 .1 .0) _ _ _ _ (rw (c .before .before .before .before .before .before .before .before .before .ruled .given .1) at (c .before .before .before .before .before .before .before .before .before .before .before .before .before .before .before .read-part .ensures)) n l (c .before .before .before .before .before .before .before .if1 .left) (c .before .before .before .before .before .before .if2 .left) (c .before .before .before .before .before .if3 .left) (c .before .before .before .if4 .left) (c .before .before .before .before .before .before .before .before .before .before .before .before .before .before .before .read-part .kept .1 .1 .1 .1 .1 .1 .1 .0) (s .pre .sheet) (s .pre .stored) (s .pre .proper) (c .before .before .before .before .before .before .before .before .before .before .before .before .before .before .before .read-part .kept .1 .1 .1 .1 .1 .1 .1 .1 .0)
+    rule-room (s .args .conditional) (tokensFrom (s .args .line .now) (s .args .at)) (s .args .done) (s .args .ranges .now) (s .args .primitives .now) (s .args .lengths .now) (s .args .literals .now) (s .args .keys .now) _ (s .pre .full) refl (c .before .before .before .before .before .before .before .before .before .ruled .given .0 .0) (c .before .before .before .before .before .before .before .before .before .ruled .given .0 .1 .0) (c .before .before .before .before .before .before .before .before .before .ruled .given .0 .1 .1 .0) _ _ _ _ (rw (c .before .before .before .before .before .before .before .before .before .ruled .given .1) at (c .before .before .before .before .before .before .before .before .before .before .before .before .before .before .before .read-part .ensures)) n l (c .before .before .before .before .before .before .before .if1 .left) (c .before .before .before .before .before .before .if2 .left) (c .before .before .before .before .before .if3 .left) (c .before .before .before .if4 .left) (c .before .before .before .before .before .before .before .before .before .before .before .before .before .before .before .read-part .kept .1 .1 .1 .1 .1 .1 .1 .0) (s .pre .draft) (s .pre .stored) (s .pre .proper) (c .before .before .before .before .before .before .before .before .before .before .before .before .before .before .before .read-part .kept .1 .1 .1 .1 .1 .1 .1 .1 .0)
 
 same-length-16 : tie.Need-same-length-16
 same-length-16 c = search needs

@@ -5,9 +5,9 @@ use native.Mathlib.Omega.{arith}
 use lib.ListN.{length, take}
 use borrow.Author.Needs.{needs}
 use borrow.Rule.Slice.PartMut.{mid-len, same-len-mid}
-use Rattle.translate.specs.Lists.{nameBytes}
+use Rattle.meaning.specs.Lists.{nameBytes}
 use Rattle.translate.specs.Translate.{filled}
-use Rattle.translate.proofs.Fills.{names-none, names-next, names-done}
+use Rattle.translate.proofs.Filling.{names-none, names-next, names-done}
 use Rattle.translate.proofs.name.write.Statement.{statement}
 use Rattle.translate.proofs.name.write.Tie as tie
 

@@ -6,8 +6,8 @@ use Rattle.sheet.specs.Reading.{signOf}
 use Rattle.sheet.specs.inner.Steps.{tokensFrom}
 use Rattle.translate.specs.inner.Emission.{Listing}
 use Rattle.translate.specs.inner.Comparisons.{listingOf, turnedBy}
-use Rattle.translate.proofs.Listings.{comparison-no, comparison-low, comparison-high, comparison-half, comparison-is}
-use Rattle.translate.proofs.Readings.{head-kind}
+use Rattle.translate.proofs.ComparisonCode.{comparison-no, comparison-low, comparison-high, comparison-half, comparison-is}
+use Rattle.translate.proofs.FirstTokens.{head-kind}
 use Rattle.translate.proofs.rule.comparison.Statement.{statement}
 use Rattle.translate.proofs.rule.comparison.Tie as tie
 

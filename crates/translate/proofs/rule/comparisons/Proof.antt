@@ -6,8 +6,8 @@ use borrow.Author.Needs.{needs}
 use Rattle.sheet.specs.inner.Steps.{tokensFrom}
 use Rattle.translate.specs.inner.Emission.{Listing}
 use Rattle.translate.specs.inner.Comparisons.{listingOf}
-use Rattle.translate.proofs.Listings.{shorter, Walks, walks-start, walks-turn, more-end, more-no, all-no, all-on}
-use Rattle.translate.proofs.Readings.{head-kind}
+use Rattle.translate.proofs.ComparisonCode.{shorter, Walks, walks-start, walks-turn, more-end, more-no, all-no, all-on}
+use Rattle.translate.proofs.FirstTokens.{head-kind}
 use Rattle.translate.proofs.rule.comparisons.Statement.{statement}
 use Rattle.translate.proofs.rule.comparisons.Tie as tie
 

@@ -1,7 +1,7 @@
 -- `rule::equal_of` meets its contract: each arm is one clause of `equal`.
 use native.Mathlib.Omega.{arith}
 use borrow.Author.Needs.{needs}
-use Rattle.translate.specs.Translation.{equal}
+use Rattle.meaning.specs.Translation.{equal}
 use Rattle.translate.proofs.rule.equal_of.Statement.{statement}
 use Rattle.translate.proofs.rule.equal_of.Tie as tie
 

@@ -1,5 +1,5 @@
 -- `rule::half` meets its contract: each way is one clause of `halfOf`.
-use Rattle.translate.specs.Translation.{halfOf}
+use Rattle.meaning.specs.Translation.{halfOf}
 use Rattle.translate.proofs.rule.half.Statement.{statement}
 use Rattle.translate.proofs.rule.half.Tie as tie
 

@@ -1,6 +1,6 @@
 -- `rule::list` meets its contract: both clauses get the sign's literals, each by its turn.
 use borrow.Author.Needs.{needs}
-use Rattle.translate.proofs.Literals.{both-listed}
+use Rattle.translate.proofs.SignCode.{both-listed}
 use Rattle.translate.proofs.rule.list.Statement.{statement}
 use Rattle.translate.proofs.rule.list.Tie as tie
 

@@ -1,6 +1,6 @@
 -- `rule::more_equals` meets its contract: its test is that of `moreEquals`.
 use borrow.Author.Needs.{needs}
-use Rattle.translate.proofs.Literals.{equals-more, equals-same}
+use Rattle.translate.proofs.SignCode.{equals-more, equals-same}
 use Rattle.translate.proofs.rule.more_equals.Statement.{statement}
 use Rattle.translate.proofs.rule.more_equals.Tie as tie
 

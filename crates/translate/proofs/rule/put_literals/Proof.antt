@@ -1,7 +1,7 @@
 -- `rule::put_literals` meets its contract: each arm is one clause of `literalsFor`.
 use borrow.Author.Needs.{needs}
 use Rattle.translate.specs.inner.Comparisons.{turnOf}
-use Rattle.translate.proofs.Literals.{put-most, put-below, put-least, put-above, put-equal, put-differ}
+use Rattle.translate.proofs.SignCode.{put-most, put-below, put-least, put-above, put-equal, put-differ}
 use Rattle.translate.proofs.rule.put_literals.Statement.{statement}
 use Rattle.translate.proofs.rule.put_literals.Tie as tie
 

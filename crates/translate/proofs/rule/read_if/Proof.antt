@@ -4,8 +4,8 @@ use borrow.Author.Needs.{needs}
 use Rattle.sheet.specs.inner.Steps.{tokensFrom}
 use Rattle.translate.specs.inner.Emission.{Listing}
 use Rattle.translate.specs.inner.Comparisons.{listingOf}
-use Rattle.translate.proofs.Rulings.{if-no, if-other, if-half, if-is}
-use Rattle.translate.proofs.Readings.{head-kind}
+use Rattle.translate.proofs.RuleCode.{if-no, if-other, if-half, if-is}
+use Rattle.translate.proofs.FirstTokens.{head-kind}
 use Rattle.translate.proofs.rule.read_if.Statement.{statement}
 use Rattle.translate.proofs.rule.read_if.Tie as tie
 

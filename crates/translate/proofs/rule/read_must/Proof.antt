@@ -2,7 +2,7 @@
 use borrow.Author.Needs.{needs}
 use Rattle.translate.specs.inner.Emission.{Listing}
 use Rattle.translate.specs.inner.Comparisons.{listingOf}
-use Rattle.translate.proofs.Rulings.{must-no, must-is}
+use Rattle.translate.proofs.RuleCode.{must-no, must-is}
 use Rattle.translate.proofs.rule.read_must.Statement.{statement}
 use Rattle.translate.proofs.rule.read_must.Tie as tie
 

@@ -4,8 +4,8 @@ use mathlib.Core.Path.{_≡_, refl, sym, _∙_}
 use native.Mathlib.Omega.{arith}
 use lib.ListN.{length, drop}
 use borrow.Author.Needs.{needs}
-use Rattle.translate.specs.Grounds.{anyBadByte}
-use Rattle.translate.proofs.Texts.{bad-here, bad-later, bad-none}
+use Rattle.meaning.specs.Grounds.{anyBadByte}
+use Rattle.translate.proofs.BadBytes.{bad-here, bad-later, bad-none}
 use Rattle.translate.proofs.text.any_bad_byte.Statement.{statement}
 use Rattle.translate.proofs.text.any_bad_byte.Tie as tie
 

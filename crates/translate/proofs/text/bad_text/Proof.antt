@@ -1,7 +1,7 @@
 -- Each test decides its part of `badText`, and the tests before it leave theirs false.
 use mathlib.Core.Path.{sym, _∙_}
 use borrow.Author.Needs.{needs}
-use Rattle.translate.proofs.Texts.{text-empty, text-long, text-bytes, text-end}
+use Rattle.translate.proofs.BadBytes.{text-empty, text-long, text-bytes, text-end}
 use Rattle.translate.proofs.text.bad_text.Statement.{statement}
 use Rattle.translate.proofs.text.bad_text.Tie as tie
 

@@ -2,7 +2,7 @@
 use mathlib.Core.Path.{sym, _∙_}
 use borrow.Author.Tests.{ne-eqb}
 use borrow.Author.Needs.{needs}
-use Rattle.translate.proofs.Versions.{first-short, first-other, first-marked}
+use Rattle.translate.proofs.VersionLine.{first-short, first-other, first-marked}
 use Rattle.translate.proofs.text.first_line.Statement.{statement}
 use Rattle.translate.proofs.text.first_line.Tie as tie
 

@@ -1,7 +1,7 @@
 -- What `number` says of the bytes, then the limit, then the last byte decide.
 use mathlib.Core.Path.{sym, _∙_}
 use borrow.Author.Needs.{needs}
-use Rattle.translate.proofs.Versions.{version-none, number-some, version-is, version-high, version-unit}
+use Rattle.translate.proofs.VersionLine.{version-none, number-some, version-is, version-high, version-unit}
 use Rattle.translate.proofs.text.version.Statement.{statement}
 use Rattle.translate.proofs.text.version.Tie as tie
 

@@ -2,10 +2,10 @@
 use Prim.Native.Nat.{_*_}
 use native.Mathlib.Omega.{arith}
 use mathlib.Core.Path.{sym}
-use lib.ListN.{length, take, length-take}
+use lib.ListN.{length-take}
 use lib.Seq.{length-take-le}
 use borrow.Author.Needs.{needs}
-use Rattle.translate.proofs.Handing.{room, accepts}
+use Rattle.translate.proofs.AcceptCode.{room, accepts}
 use Rattle.translate.proofs.walk.accept.Statement.{statement}
 use Rattle.translate.proofs.walk.accept.Tie as tie
 

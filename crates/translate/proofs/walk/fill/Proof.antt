@@ -1,6 +1,6 @@
 -- The walk's answer decides: a fault, no quantity declared, or the fronts of what is held.
 use borrow.Author.Needs.{needs}
-use Rattle.translate.proofs.Handing.{walk-refused, walk-standing, walk-undeclared, walk-accepted}
+use Rattle.translate.proofs.AcceptCode.{walk-refused, walk-standing, walk-undeclared, walk-accepted}
 use Rattle.translate.proofs.walk.fill.Statement.{statement}
 use Rattle.translate.proofs.walk.fill.Tie as tie
 

@@ -1,11 +1,11 @@
 -- The walk through the lines keeps `Walking`: a line without a fault is one step, a fault decides, and past the last line the sheet held is the outcome.
 use mathlib.Core.Path.{sym, _∙_}
 use native.Mathlib.Omega.{arith}
-use Prim.Native.Nat.{_+_, _-_, _≤_}
+use Prim.Native.Nat.{_+_, _-_}
 use lib.ListN.{length}
 use borrow.Author.Needs.{needs}
 use Rattle.sheet.proofs.Places.{place-fits}
-use Rattle.translate.proofs.Walking.{Walking, walk-start, walk-done, walk-fault, walk-next}
+use Rattle.translate.proofs.WalkCode.{Walking, walk-start, walk-done, walk-fault, walk-next}
 use Rattle.translate.proofs.walk.read_lines.Statement.{statement}
 use Rattle.translate.proofs.walk.read_lines.Tie as tie
 

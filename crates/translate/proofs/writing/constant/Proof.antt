@@ -3,7 +3,7 @@ use native.Mathlib.Omega.{arith}
 use mir.Syntax.{w64}
 use mir.Facts.{toZ-pos}
 use borrow.Author.Needs.{needs}
-use Rattle.translate.proofs.Helpers.{constant-is}
+use Rattle.translate.proofs.HelperCode.{constant-is}
 use Rattle.translate.proofs.writing.constant.Statement.{statement}
 use Rattle.translate.proofs.writing.constant.Tie as tie
 

@@ -1,5 +1,5 @@
 use borrow.Author.Needs.{needs}
-use Rattle.translate.proofs.Helpers.{difference-is}
+use Rattle.translate.proofs.HelperCode.{difference-is}
 use Rattle.translate.proofs.writing.difference.Statement.{statement}
 use Rattle.translate.proofs.writing.difference.Tie as tie
 

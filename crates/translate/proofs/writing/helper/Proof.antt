@@ -5,7 +5,7 @@ use borrow.Author.Needs.{needs}
 use Rattle.whole.proofs.Kit.{got}
 use Rattle.problem.proofs.Tests.{or-yes, or-no}
 use Rattle.problem.specs.Grounds.{badRange}
-use Rattle.translate.proofs.Helpers.{helper-is}
+use Rattle.translate.proofs.HelperCode.{helper-is}
 use Rattle.translate.proofs.writing.helper.Statement.{statement}
 use Rattle.translate.proofs.writing.helper.Tie as tie
 

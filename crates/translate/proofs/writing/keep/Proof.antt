@@ -1,7 +1,7 @@
 -- `writing::keep` meets its contract: a range that is not bad is good.
 use borrow.Author.Needs.{needs}
 use Rattle.whole.proofs.Kit.{got}
-use Rattle.translate.proofs.KeptRanges.{bad-told, kept-bad, kept-good}
+use Rattle.translate.proofs.ComputableRanges.{bad-told, kept-bad, kept-good}
 use Rattle.translate.proofs.writing.keep.Statement.{statement}
 use Rattle.translate.proofs.writing.keep.Tie as tie
 

@@ -4,8 +4,8 @@ use mathlib.Core.Path.{_∙_}
 use lib.ListN.{length}
 use borrow.Author.Needs.{needs}
 use Rattle.problem.proofs.Tests.{or-yes, or-no}
-use Rattle.translate.specs.Plain.{placeOf}
-use Rattle.translate.proofs.Helpers.{named-is}
+use Rattle.meaning.specs.Plain.{placeOf}
+use Rattle.translate.proofs.HelperCode.{named-is}
 use Rattle.translate.proofs.writing.named.Statement.{statement}
 use Rattle.translate.proofs.writing.named.Tie as tie
 

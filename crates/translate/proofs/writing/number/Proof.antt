@@ -1,6 +1,6 @@
 -- `writing::number` meets its contract: a number below the limit fits, and is written as it is.
 use borrow.Author.Needs.{needs}
-use Rattle.translate.proofs.Stores.{small-is, small-none}
+use Rattle.translate.proofs.StoredNumbers.{small-is, small-none}
 use Rattle.translate.proofs.writing.number.Statement.{statement}
 use Rattle.translate.proofs.writing.number.Tie as tie
 

@@ -1,6 +1,6 @@
 -- `writing::one_more` meets its contract: its test is that of `bump`.
 use borrow.Author.Needs.{needs}
-use Rattle.translate.proofs.Stores.{bump-more, bump-same}
+use Rattle.translate.proofs.StoredNumbers.{bump-more, bump-same}
 use Rattle.translate.proofs.writing.one_more.Statement.{statement}
 use Rattle.translate.proofs.writing.one_more.Tie as tie
 

@@ -1,6 +1,6 @@
 -- `writing::operated` meets its contract: the primitive is written first, then the helper is made.
 use borrow.Author.Needs.{needs}
-use Rattle.translate.proofs.Helpers.{operated-is}
+use Rattle.translate.proofs.HelperCode.{operated-is}
 use Rattle.translate.proofs.writing.operated.Statement.{statement}
 use Rattle.translate.proofs.writing.operated.Tie as tie
 

@@ -3,8 +3,8 @@ use mathlib.Core.Path.{_≡_}
 use Prim.Native.Nat.{_+_, _-_, _≤_}
 use native.Mathlib.Omega.{arith}
 use lib.ListN.{length, drop}
-use Rattle.translate.specs.Plain.{placeOf}
-use Rattle.translate.proofs.Helpers.{place-here, place-on, place-none}
+use Rattle.meaning.specs.Plain.{placeOf}
+use Rattle.translate.proofs.HelperCode.{place-here, place-on, place-none}
 use Rattle.translate.proofs.writing.place_of.Statement.{statement}
 use Rattle.translate.proofs.writing.place_of.Tie as tie
 

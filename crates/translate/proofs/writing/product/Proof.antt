@@ -1,5 +1,5 @@
 use borrow.Author.Needs.{needs}
-use Rattle.translate.proofs.Helpers.{product-is}
+use Rattle.translate.proofs.HelperCode.{product-is}
 use Rattle.translate.proofs.writing.product.Statement.{statement}
 use Rattle.translate.proofs.writing.product.Tie as tie
 

@@ -1,7 +1,7 @@
 -- `writing::put_four` meets its contract: the four stores are those of `putFour`.
 use borrow.Author.Needs.{needs}
 use Rattle.whole.proofs.Kit.{rd}
-use Rattle.translate.proofs.Stores.{four-put, four-out}
+use Rattle.translate.proofs.StoredNumbers.{four-put, four-out}
 use Rattle.translate.proofs.writing.put_four.Statement.{statement}
 use Rattle.translate.proofs.writing.put_four.Tie as tie
 

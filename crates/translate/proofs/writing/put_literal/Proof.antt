@@ -2,7 +2,7 @@
 use mathlib.Core.Path.{_∙_}
 use borrow.Author.Needs.{needs}
 use Rattle.whole.proofs.Kit.{got}
-use Rattle.translate.proofs.Stores.{most-put, least-put}
+use Rattle.translate.proofs.StoredNumbers.{most-put, least-put}
 use Rattle.translate.proofs.writing.put_literal.Statement.{statement}
 use Rattle.translate.proofs.writing.put_literal.Tie as tie
 

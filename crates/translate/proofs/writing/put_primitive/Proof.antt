@@ -2,7 +2,7 @@
 use mathlib.Core.Path.{_∙_}
 use borrow.Author.Needs.{needs}
 use Rattle.whole.proofs.Kit.{got}
-use Rattle.translate.proofs.Stores.{sum-put, product-put, square-put}
+use Rattle.translate.proofs.StoredNumbers.{sum-put, product-put, square-put}
 use Rattle.translate.proofs.writing.put_primitive.Statement.{statement}
 use Rattle.translate.proofs.writing.put_primitive.Tie as tie
 

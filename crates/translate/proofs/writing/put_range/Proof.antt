@@ -1,7 +1,7 @@
 -- `writing::put_range` meets its contract: the two stores are those of `putRange`.
 use borrow.Author.Needs.{needs}
 use Rattle.whole.proofs.Kit.{got}
-use Rattle.translate.proofs.Stores.{range-put, range-out}
+use Rattle.translate.proofs.StoredNumbers.{range-put, range-out}
 use Rattle.translate.proofs.writing.put_range.Statement.{statement}
 use Rattle.translate.proofs.writing.put_range.Tie as tie
 

@@ -1,7 +1,7 @@
 -- `writing::put_three` meets its contract: the three stores are those of `putThree`.
 use borrow.Author.Needs.{needs}
 use Rattle.whole.proofs.Kit.{rd}
-use Rattle.translate.proofs.Stores.{three-put, three-out}
+use Rattle.translate.proofs.StoredNumbers.{three-put, three-out}
 use Rattle.translate.proofs.writing.put_three.Statement.{statement}
 use Rattle.translate.proofs.writing.put_three.Tie as tie
 

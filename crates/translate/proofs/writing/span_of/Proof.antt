@@ -2,7 +2,7 @@
 use mathlib.Core.Path.{_∙_}
 use borrow.Author.Needs.{needs}
 use Rattle.whole.proofs.Kit.{got}
-use Rattle.translate.proofs.KeptRanges.{span-in, span-out}
+use Rattle.translate.proofs.ComputableRanges.{span-in, span-out}
 use Rattle.translate.proofs.writing.span_of.Statement.{statement}
 use Rattle.translate.proofs.writing.span_of.Tie as tie
 

@@ -1,5 +1,5 @@
 use borrow.Author.Needs.{needs}
-use Rattle.translate.proofs.Helpers.{square-is}
+use Rattle.translate.proofs.HelperCode.{square-is}
 use Rattle.translate.proofs.writing.squared.Statement.{statement}
 use Rattle.translate.proofs.writing.squared.Tie as tie
 

@@ -1,5 +1,5 @@
 use borrow.Author.Needs.{needs}
-use Rattle.translate.proofs.Helpers.{sum-is}
+use Rattle.translate.proofs.HelperCode.{sum-is}
 use Rattle.translate.proofs.writing.sum.Statement.{statement}
 use Rattle.translate.proofs.writing.sum.Tie as tie
 

@@ -1,0 +1,63 @@
+-- What is promised of a solve, for docs/PROMISES.md. It came with lists rs, ps, ns, ls, a budget, a point buffer p₀ and a workspace w₀, and gave back r,
+-- with p and w in the buffers.
+use mathlib.Core.Path.{_≡_}
+use mathlib.Core.List.{List}
+use Prim.Native.Nat.{ℕ, _≤_, _<_}
+use lib.IntN.{ℤ}
+use lib.ListN.{length}
+use Rattle.whole.specs.Numbers.{positivePart}
+use Rattle.whole.specs.Ranges.{Point}
+use Rattle.problem.specs.Problem.{Problem, quantities}
+use Rattle.problem.specs.Order.{Alike}
+use Rattle.problem.specs.Lists.{problemOf}
+use Rattle.problem.specs.Grounds.{judgeOf, FirstMet}
+use Rattle.problem.specs.declared.Judged.the-variants.{Sound}
+use Rattle.search.specs.Search.{waitingOf, searchOf}
+use Rattle.search.specs.Depth.{depthOf, roomOf}
+use Rattle.search.specs.Solve.{SolveGround, cleared, Solves, numberOf}
+use Rattle.search.specs.Demand2.{Smallest, Right}
+use Rattle.search.specs.declared.Answer.the-variants.{None}
+use Rattle.search.specs.declared.Solved.{Solved}
+
+-- a refusal: its number is that of the first ground met; the sweep count is 0; point buffer and workspace stay as they came
+abbrev pub SolveRefused : Type 0
+SolveRefused =
+    (rs ps ns ls : List ℤ) (budget : ℤ) (p₀ w₀ p w : List ℤ) (r : Solved) → Solves rs ps ns ls budget p₀ w₀ p w r
+    → (g : ℕ) → numberOf (r .answer) ≡ g → 0 < g
+    → FirstMet (SolveGround rs ps ns ls budget p₀ w₀) g × (r .sweeps ≡ 0) × (p ≡ p₀) × (w ≡ w₀)
+
+-- and back: the first ground met gives its number
+abbrev pub RefusedBack : Type 0
+RefusedBack =
+    (rs ps ns ls : List ℤ) (budget : ℤ) (p₀ w₀ p w : List ℤ) (r : Solved) → Solves rs ps ns ls budget p₀ w₀ p w r
+    → (g : ℕ) → FirstMet (SolveGround rs ps ns ls budget p₀ w₀) g → numberOf (r .answer) ≡ g
+
+-- where no ground is met, the answer is right for the problem
+abbrev pub SolveRight : Type 0
+SolveRight =
+    (rs ps ns ls : List ℤ) (budget : ℤ) (p₀ w₀ p w : List ℤ) (r : Solved) → Solves rs ps ns ls budget p₀ w₀ p w r
+    → ((g : ℕ) → SolveGround rs ps ns ls budget p₀ w₀ g → ⊥)
+    → Right (problemOf rs ps ns ls) (positivePart budget) (r .answer) (r .sweeps) p
+
+-- the point buffer is unchanged after none; the first 2n(D+1) numbers of the workspace are then 0, the rest unchanged
+abbrev pub SolveBuffers : Type 0
+SolveBuffers =
+    (rs ps ns ls : List ℤ) (budget : ℤ) (p₀ w₀ p w : List ℤ) (r : Solved) → Solves rs ps ns ls budget p₀ w₀ p w r
+    → ((g : ℕ) → SolveGround rs ps ns ls budget p₀ w₀ g → ⊥)
+    → (r .answer ≡ None → p ≡ p₀) × (w ≡ cleared (roomOf rs) w₀)
+
+-- the contract determines the result, the point buffer and the workspace
+abbrev pub SolveOnce : Type 0
+SolveOnce =
+    (rs ps ns ls : List ℤ) (budget : ℤ) (p₀ w₀ p w p′ w′ : List ℤ) (r r′ : Solved)
+    → Solves rs ps ns ls budget p₀ w₀ p w r → Solves rs ps ns ls budget p₀ w₀ p′ w′ r′ → (r ≡ r′) × (p ≡ p′) × (w ≡ w′)
+
+-- never more than D boxes wait
+abbrev pub Room : Type 0
+Room =
+    (rs ps ns ls : List ℤ) → judgeOf rs ps ns ls ≡ Sound
+    → (k : ℕ) → length (waitingOf (searchOf (problemOf rs ps ns ls) k)) ≤ depthOf rs
+
+-- there is one smallest satisfying point only
+abbrev pub SmallestOnce : Type 0
+SmallestOnce = (b : Problem) (p p′ : Point) → Smallest b p → Smallest b p′ → Alike (quantities (b .ranges)) p p′
