@@ -51,6 +51,8 @@ pub fn made() -> Vec<Subject> {
         plain("126 squares above 0, none cuts", quiet(3, [0, 10_000], [0, 100]), 2_000),
         plain("4 clauses of 256 literals", long_clauses(), 2_000),
         plain("256 clauses of 4 literals", short_clauses(), 2_000),
+        plain("20 clauses of 50 alternatives, the first two open", alternatives(0), 2_000),
+        plain("20 clauses of 50 alternatives, the last two open", alternatives(48), 2_000),
         plain("128 quantities, splits alone", deep_splits(), 10_000),
         plain("5 quantities, splits and returns", odd_and_even(), 20_000),
         plain("sums, products, squares and clauses", mixture(), 5_000),
@@ -210,6 +212,22 @@ fn long_clauses() -> Problem {
     let mut literals = vec![[zero, 1, 1]; 254];
     literals.extend([[open, 0, 0], [open, 1, 1]]);
     for _ in 0..4 {
+        add_clause(&mut problem, &literals);
+    }
+    add_odd_and_even(&mut problem);
+    problem
+}
+
+/// Clauses of fifty literals: two that stay undecided stand behind some false
+/// ones, and the rest is false. The second of the two decides the clause.
+fn alternatives(before: usize) -> Problem {
+    let mut problem = beside_odd_and_even();
+    let zero = quantity(&mut problem, [0, 0]);
+    let open = quantity(&mut problem, [-9, 9]);
+    let mut literals = [[zero, 1, 1]; 50];
+    literals[before] = [open, 0, 0];
+    literals[before + 1] = [open, 1, 1];
+    for _ in 0..20 {
         add_clause(&mut problem, &literals);
     }
     add_odd_and_even(&mut problem);
