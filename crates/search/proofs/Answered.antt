@@ -24,14 +24,10 @@ use Rattle.search.specs.inner.Laws.{Lawful}
 use Rattle.search.specs.declared.Answer.the-variants as answer
 use Rattle.search.specs.declared.Solved.{Solved}
 use Rattle.search.proofs.Choice.{lows-point}
-use Rattle.search.proofs.Run.{boxesOf, leftOf, not-yet, steady-answer, steady-point, count-least, count-enough}
+use Rattle.search.proofs.Run.{never, boxesOf, leftOf, not-yet, steady-answer, steady-point, count-least, count-enough}
 use Rattle.search.proofs.Demand2.{Stack, stack, Means, demand2}
 use Rattle.search.proofs.Judged.{judges, accepted}
 use Rattle.search.proofs.Instance.{start-part, Meets, sweep-lawful, sweep-sound, sweep-ordered}
-
--- two answers that differ
-never : {A : Type 0} → _≡_ {A = ℕ} 0 1 → A
-never z = absurd (omega arith)
 
 module _ (rs ps ns ls : List ℤ) (sound : judgeOf rs ps ns ls ≡ Sound) (k : ℕ) where
   start : Part (quantities rs) rs rs

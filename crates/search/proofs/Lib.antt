@@ -9,6 +9,7 @@ pub mod Judged
 pub mod Instance
 pub mod SolveGrounds
 pub mod Answered
+pub mod Longer
 pub mod Promises
 pub mod PointLength
 pub mod Copies

@@ -7,12 +7,13 @@ use lib.IntN.{ℤ}
 use Rattle.problem.specs.Grounds.{refusalNumber, FirstMet}
 use Rattle.problem.specs.declared.Judged.{Judged}
 use Rattle.search.specs.Solve.{judged, SolveGround, Solves, numberOf}
-use Rattle.search.specs.Promises.{SolveRefused, RefusedBack, SolveRight, SolveBuffers, SolveOnce, Room, SmallestOnce}
+use Rattle.search.specs.Promises.{SolveRefused, RefusedBack, SolveRight, SolveBuffers, SolveLonger, SolveOnce, Room, SmallestOnce}
 use Rattle.search.specs.declared.Solved.{Solved}
 use Rattle.search.proofs.Order as order
 use Rattle.search.proofs.SolveGrounds.{Judgement, refused, sound, judgement, unmet-sound, first-given}
 use Rattle.search.proofs.Answered as answered
 use Rattle.search.proofs.Answered.{refused-as, sound-right, none-leaves, work-cleared}
+use Rattle.search.proofs.Longer.{sound-longer}
 
 module _ (rs ps ns ls : List ℤ) (budget : ℤ) (p₀ w₀ p w : List ℤ) (r : Solved) (s : Solves rs ps ns ls budget p₀ w₀ p w r) where
   refused-by : (j : Judged) → judged rs ps ns ls budget p₀ w₀ ≡ j → Judgement rs ps ns ls budget p₀ w₀ j → (g : ℕ) → numberOf (r .answer) ≡ g → 0 < g
@@ -37,6 +38,10 @@ solve-right rs ps ns ls budget p₀ w₀ p w r s n = sound-right s (unmet-sound 
 
 pub solve-buffers : SolveBuffers
 solve-buffers rs ps ns ls budget p₀ w₀ p w r s n = let e = unmet-sound rs ps ns ls budget p₀ w₀ n in (none-leaves s e, work-cleared s e)
+
+pub longer : SolveLonger
+longer rs ps ns ls budget budget′ p₀ w₀ p w p₀′ w₀′ p′ w′ r r′ s t n n′ more =
+    sound-longer s t (unmet-sound rs ps ns ls budget p₀ w₀ n) (unmet-sound rs ps ns ls budget′ p₀′ w₀′ n′) more
 
 pub solve-once : SolveOnce
 solve-once rs ps ns ls budget p₀ w₀ p w p′ w′ r r′ s t = (s .result ∙ sym (t .result), s .point ∙ sym (t .point), s .work ∙ sym (t .work))

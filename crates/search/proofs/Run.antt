@@ -16,6 +16,10 @@ use Rattle.search.specs.declared.Solved.{Solved}
 use Rattle.search.specs.declared.Open.{Open}
 use Rattle.search.specs.declared.Open.the-variants.{At, Closed}
 
+-- two answers that differ
+pub never : {A : Type 0} → _≡_ {A = ℕ} 0 1 → A
+never z = absurd (omega arith)
+
 -- the box in hand and the boxes that wait, the next first. Budget k stops at the state after k sweeps, so that this shows every state
 abbrev pub boxesOf : Outcome → List Box
 boxesOf (stopped c ws) = c ∷ ws

@@ -5,6 +5,7 @@ use mathlib.Core.List.{List}
 use Prim.Native.Nat.{ℕ, _≤_, _<_}
 use lib.IntN.{ℤ}
 use lib.ListN.{length}
+use lib.Signed.{_≤ℤ_}
 use Rattle.whole.specs.Numbers.{positivePart}
 use Rattle.whole.specs.Ranges.{Point}
 use Rattle.problem.specs.Problem.{Problem, quantities}
@@ -16,6 +17,7 @@ use Rattle.search.specs.Search.{waitingOf, searchOf}
 use Rattle.search.specs.Depth.{depthOf, roomOf}
 use Rattle.search.specs.Solve.{SolveGround, cleared, Solves, numberOf}
 use Rattle.search.specs.Demand2.{Smallest, Right}
+use Rattle.search.specs.Longer.{Longer}
 use Rattle.search.specs.declared.Answer.the-variants.{None}
 use Rattle.search.specs.declared.Solved.{Solved}
 
@@ -45,6 +47,14 @@ SolveBuffers =
     (rs ps ns ls : List ℤ) (budget : ℤ) (p₀ w₀ p w : List ℤ) (r : Solved) → Solves rs ps ns ls budget p₀ w₀ p w r
     → ((g : ℕ) → SolveGround rs ps ns ls budget p₀ w₀ g → ⊥)
     → (r .answer ≡ None → p ≡ p₀) × (w ≡ cleared (roomOf rs) w₀)
+
+-- with a larger budget: what was decided stays, and what stopped goes on
+abbrev pub SolveLonger : Type 0
+SolveLonger =
+    (rs ps ns ls : List ℤ) (budget budget′ : ℤ) (p₀ w₀ p w p₀′ w₀′ p′ w′ : List ℤ) (r r′ : Solved)
+    → Solves rs ps ns ls budget p₀ w₀ p w r → Solves rs ps ns ls budget′ p₀′ w₀′ p′ w′ r′
+    → ((g : ℕ) → SolveGround rs ps ns ls budget p₀ w₀ g → ⊥) → ((g : ℕ) → SolveGround rs ps ns ls budget′ p₀′ w₀′ g → ⊥)
+    → budget ≤ℤ budget′ → Longer (quantities rs) r r′ p p′
 
 -- the contract determines the result, the point buffer and the workspace
 abbrev pub SolveOnce : Type 0
