@@ -58,7 +58,7 @@ floor {c = c} ws f o p h x = ⊎-elim (λ i. above (λ q k. i .each q k .above) 
 
 -- ---- under the first laws the boxes stay parts of the starting box, and there is room
 module _ {sweep : Box → Swept} {choose : Box → Open} {n lead : ℕ} {start : Box} (law : Lawful sweep choose n lead start) where
-  cuts : {c b : Box} → Part n start c → sweep c ≡ changed b → Part n c b
+  pub cuts : {c b : Box} → Part n start c → sweep c ≡ changed b → Part n c b
   cuts {c} f e = rw e at (law .shrinks c f)
 
   pub splits : {c c′ : Box} (q : ℕ) → Part n start c → sweep c ≡ unchanged c′ → choose c ≡ At q → Splits n c q

@@ -23,10 +23,10 @@ use Rattle.problem.proofs.Tests.{or-first, or-second}
 use Rattle.narrow.specs.Cuts.{Swept, empty, changed, unchanged}
 use Rattle.narrow.specs.Sweep.{sweepOf}
 use Rattle.narrow.specs.Named.{quantityOf, SitedIn, SitedAll, PlacedIn, PlacedAll}
-use Rattle.narrow.proofs.SweepLaws.{sweep-shrinks, sweep-settled, sweep-some, sweep-inside}
+use Rattle.narrow.proofs.SweepLaws.{sweep-shrinks, sweep-smaller, sweep-settled, sweep-some, sweep-inside}
 use Rattle.narrow.specs.Parts.{Part}
 use Rattle.search.specs.Search.{lowest}
-use Rattle.search.specs.inner.Laws.{Shrinks, Stays, Lawful, Lossless, Ordered}
+use Rattle.search.specs.inner.Laws.{Shrinks, Stays, Lawful, Ending, Lossless, Ordered}
 use Rattle.search.specs.inner.Ready.{Started}
 use Rattle.search.proofs.Splits.{part-self}
 use Rattle.search.proofs.Choice.{lowest-leads, lowest-wide, lowest-first, lowest-closed}
@@ -133,6 +133,9 @@ module _ (rs ps ns ls : List ℤ) (j : Judges rs ps ns ls) where
         wide = λ b b′ q f e g. lowest-wide (part-self f) q g;
         leading = omega arith;
       }
+
+  pub sweep-ending : Ending (sweepOf (primitivesOf ps) (clausesOf ns (literalsOf ls))) (quantities rs) rs
+  sweep-ending = record { smaller = λ b b′ f e. sweep-smaller n prims clauses b (f .long) b′ e }
 
   pub sweep-sound : Lossless (sweepOf (primitivesOf ps) (clausesOf ns (literalsOf ls))) (quantities rs) rs (Meets (primitivesOf ps) (clausesOf ns (literalsOf ls)))
   sweep-sound = record { keeps = keeps }

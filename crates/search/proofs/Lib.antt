@@ -10,6 +10,7 @@ pub mod Instance
 pub mod SolveGrounds
 pub mod Answered
 pub mod Longer
+pub mod Ending
 pub mod Promises
 pub mod PointLength
 pub mod Copies

@@ -7,13 +7,16 @@ use lib.IntN.{ℤ}
 use Rattle.problem.specs.Grounds.{refusalNumber, FirstMet}
 use Rattle.problem.specs.declared.Judged.{Judged}
 use Rattle.search.specs.Solve.{judged, SolveGround, Solves, numberOf}
-use Rattle.search.specs.Promises.{SolveRefused, RefusedBack, SolveRight, SolveBuffers, SolveLonger, SolveOnce, Room, SmallestOnce}
+use Rattle.search.specs.Promises.{SolveRefused, RefusedBack, SolveRight, SolveBuffers, SolveLonger, SolveOnce, Decided, Room, SmallestOnce}
 use Rattle.search.specs.declared.Solved.{Solved}
 use Rattle.search.proofs.Order as order
 use Rattle.search.proofs.SolveGrounds.{Judgement, refused, sound, judgement, unmet-sound, first-given}
 use Rattle.search.proofs.Answered as answered
 use Rattle.search.proofs.Answered.{refused-as, sound-right, none-leaves, work-cleared}
 use Rattle.search.proofs.Longer.{sound-longer}
+use Rattle.search.proofs.Judged.{judges}
+use Rattle.search.proofs.Instance.{start-part, sweep-lawful, sweep-ending}
+use Rattle.search.proofs.Ending.{decided-run}
 
 module _ (rs ps ns ls : List ℤ) (budget : ℤ) (p₀ w₀ p w : List ℤ) (r : Solved) (s : Solves rs ps ns ls budget p₀ w₀ p w r) where
   refused-by : (j : Judged) → judged rs ps ns ls budget p₀ w₀ ≡ j → Judgement rs ps ns ls budget p₀ w₀ j → (g : ℕ) → numberOf (r .answer) ≡ g → 0 < g
@@ -45,6 +48,11 @@ longer rs ps ns ls budget budget′ p₀ w₀ p w p₀′ w₀′ p′ w′ r r�
 
 pub solve-once : SolveOnce
 solve-once rs ps ns ls budget p₀ w₀ p w p′ w′ r r′ s t = (s .result ∙ sym (t .result), s .point ∙ sym (t .point), s .work ∙ sym (t .work))
+
+pub decided : Decided
+decided rs ps ns ls e =
+    let j = judges rs ps ns ls e in
+    decided-run (sweep-lawful rs ps ns ls j) (sweep-ending rs ps ns ls j) (start-part (j .started))
 
 pub room : Room
 room = answered.room

@@ -16,7 +16,7 @@ use Rattle.problem.specs.declared.Judged.the-variants.{Sound}
 use Rattle.search.specs.Search.{waitingOf, searchOf}
 use Rattle.search.specs.Depth.{depthOf, roomOf}
 use Rattle.search.specs.Solve.{SolveGround, cleared, Solves, numberOf}
-use Rattle.search.specs.Demand2.{Smallest, Right}
+use Rattle.search.specs.Demand2.{Smallest, Decides, Right}
 use Rattle.search.specs.Longer.{Longer}
 use Rattle.search.specs.declared.Answer.the-variants.{None}
 use Rattle.search.specs.declared.Solved.{Solved}
@@ -61,6 +61,10 @@ abbrev pub SolveOnce : Type 0
 SolveOnce =
     (rs ps ns ls : List ℤ) (budget : ℤ) (p₀ w₀ p w p′ w′ : List ℤ) (r r′ : Solved)
     → Solves rs ps ns ls budget p₀ w₀ p w r → Solves rs ps ns ls budget p₀ w₀ p′ w′ r′ → (r ≡ r′) × (p ≡ p′) × (w ≡ w′)
+
+-- some budget decides: the search of a problem that none of grounds 1 to 5 refuses comes to none or found
+abbrev pub Decided : Type 0
+Decided = (rs ps ns ls : List ℤ) → judgeOf rs ps ns ls ≡ Sound → (k : ℕ) × Decides (searchOf (problemOf rs ps ns ls) k)
 
 -- never more than D boxes wait
 abbrev pub Room : Type 0

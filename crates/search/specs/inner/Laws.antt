@@ -6,7 +6,7 @@ use lib.Signed.{_<ℤ_}
 use Rattle.whole.specs.Ranges.{Point}
 use Rattle.problem.specs.Problem.{Box, lowAt, highAt, Inside}
 use Rattle.narrow.specs.Cuts.{Swept, empty, changed, unchanged}
-use Rattle.narrow.specs.Parts.{Part}
+use Rattle.narrow.specs.Parts.{Part, Smaller}
 use Rattle.search.specs.declared.Open.{Open}
 use Rattle.search.specs.declared.Open.the-variants.{At, Closed}
 
@@ -29,6 +29,11 @@ pub record Lawful (sweep : Box → Swept) (choose : Box → Open) (n lead : ℕ)
   pub leads : (b b′ : Box) (q : ℕ) → Part n start b → sweep b ≡ unchanged b′ → choose b ≡ At q → q < lead
   pub wide : (b b′ : Box) (q : ℕ) → Part n start b → sweep b ≡ unchanged b′ → choose b ≡ At q → lowAt b q <ℤ highAt b q
   pub leading : lead ≤ n
+
+-- for an end of the search
+pub record Ending (sweep : Box → Swept) (n : ℕ) (start : Box) : Type 0 where
+  -- a changed box is smaller
+  pub smaller : (b b′ : Box) → Part n start b → sweep b ≡ changed b′ → Smaller n b b′
 
 -- for cover and none
 pub record Lossless (sweep : Box → Swept) (n : ℕ) (start : Box) (Sat : Point → Type 0) : Type 0 where
