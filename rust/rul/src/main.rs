@@ -1,17 +1,21 @@
 //! Answers a sheet with the proved library, as the desk program does or in
 //! plain words.
 
-#![forbid(unsafe_code)]
+#![deny(unsafe_code)]
 
+#[allow(unsafe_code)]
+mod interrupt;
+mod longer;
 mod options;
 mod print;
+mod progress;
 
 use std::fs::File;
 use std::io::{self, Read, Write};
 use std::process::ExitCode;
 
 use options::{Command, Options};
-use ularimpong::{Refusal, Report, Sheet, DESK_BUDGET, DESK_ROOM, MOST_BYTES};
+use ularimpong::{Refusal, Report, Sheet, DESK_BUDGET, DESK_ROOM, MOST_BUDGET, MOST_BYTES};
 
 const ANSWERED: u8 = 0;
 const REFUSED: u8 = 1;
@@ -42,7 +46,7 @@ fn read_sheet(options: &Options) -> Result<Vec<u8>, String> {
 }
 
 fn answer(options: &Options, text: &[u8]) -> u8 {
-    if !options.words && options.budget.is_none() {
+    if options.as_the_desk() {
         return as_the_desk(text);
     }
     let outcome = Sheet::read(text).and_then(|sheet| {
@@ -50,8 +54,7 @@ fn answer(options: &Options, text: &[u8]) -> u8 {
         Ok((sheet, report))
     });
     let (output, status) = match outcome {
-        Ok((sheet, report)) if options.words => (print::words(&sheet, &report), ANSWERED),
-        Ok((sheet, report)) => (print::lines(&sheet, &report), ANSWERED),
+        Ok((sheet, report)) => (printed(options, &sheet, &report), ANSWERED),
         Err(refusal) if options.words => (format!("{refusal}\n"), REFUSED),
         Err(refusal) => (print::refused(&refusal), REFUSED),
     };
@@ -65,12 +68,24 @@ fn as_the_desk(text: &[u8]) -> u8 {
     write_out(&output, status)
 }
 
-/// With a budget of one's own there is as much room as the sheet needs;
-/// without, budget and room are the desk's.
+/// With a budget of one's own, or in stages, there is as much room as the
+/// sheet needs; otherwise budget and room are the desk's.
 fn solve(options: &Options, sheet: &Sheet) -> Result<Report, Refusal> {
     match options.budget {
+        _ if options.longer => {
+            let most = options.budget.unwrap_or(MOST_BUDGET);
+            longer::solve(sheet, most, |report| printed(options, sheet, report))
+        }
         Some(budget) => sheet.solve(budget),
         None => sheet.problem().solve_within(DESK_BUDGET, DESK_ROOM),
+    }
+}
+
+fn printed(options: &Options, sheet: &Sheet, report: &Report) -> String {
+    if options.words {
+        print::words(sheet, report)
+    } else {
+        print::lines(sheet, report)
     }
 }
 

@@ -35,7 +35,7 @@ pub fn words(sheet: &Sheet, report: &Report) -> String {
     }
 }
 
-fn counted(sweeps: usize) -> String {
+pub fn counted(sweeps: usize) -> String {
     let plural = if sweeps == 1 { "" } else { "s" };
     format!("{sweeps} sweep{plural}")
 }

@@ -41,6 +41,8 @@ pub use sheet::Sheet;
 pub const DESK_BUDGET: i64 = 100_000;
 /// The desk's workspace, in numbers.
 pub const DESK_ROOM: usize = 8_192;
+/// The largest budget of sweeps that a solve takes.
+pub const MOST_BUDGET: i64 = 1_000_000_000;
 /// The most bytes a sheet may have.
 pub const MOST_BYTES: usize = 4_096;
 

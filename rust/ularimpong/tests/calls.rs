@@ -1,7 +1,7 @@
 //! The library through its wrapper: document 01's examples, every kind of
 //! answer, and refusals in words.
 
-use ularimpong::{answer, line, Ground, Outcome, Problem, Refusal, Report, Sheet};
+use ularimpong::{answer, line, Ground, Outcome, Problem, Refusal, Report, Sheet, MOST_BUDGET};
 
 const FIRST: &[u8] = b"RUL 1\nrange w 1 10\nrange h 1 10\nmust w * h = 35\nmust w < h\n";
 
@@ -55,6 +55,8 @@ fn refusals_of_problems() {
     assert!(ground(&sound, 9).is_ok());
     assert_eq!(ground(&Problem::default(), 9), Err(Ground::Quantities));
     assert_eq!(ground(&sound, -1), Err(Ground::Budget));
+    assert!(ground(&sound, MOST_BUDGET).is_ok());
+    assert_eq!(ground(&sound, MOST_BUDGET + 1), Err(Ground::Budget));
     let short = sound.solve_within(9, 3).map_err(|error| error.ground);
     assert_eq!(short, Err(Ground::Room));
     let huge = Problem { ranges: vec![i64::MIN; 100_000], ..Problem::default() };
