@@ -42,8 +42,8 @@ solve-right rs ps ns ls budget p₀ w₀ p w r s n = sound-right s (unmet-sound 
 pub solve-buffers : SolveBuffers
 solve-buffers rs ps ns ls budget p₀ w₀ p w r s n = let e = unmet-sound rs ps ns ls budget p₀ w₀ n in (none-leaves s e, work-cleared s e)
 
-pub longer : SolveLonger
-longer rs ps ns ls budget budget′ p₀ w₀ p w p₀′ w₀′ p′ w′ r r′ s t n n′ more =
+pub solve-longer : SolveLonger
+solve-longer rs ps ns ls budget budget′ p₀ w₀ p w p₀′ w₀′ p′ w′ r r′ s t n n′ more =
     sound-longer s t (unmet-sound rs ps ns ls budget p₀ w₀ n) (unmet-sound rs ps ns ls budget′ p₀′ w₀′ n′) more
 
 pub solve-once : SolveOnce
