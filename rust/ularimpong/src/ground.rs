@@ -80,8 +80,8 @@ const ROWS: [Row; 19] = [
         ground: Ground::Room,
         number: 7,
         meaning: "the search would need more room than the desk has: 2n(D+1) numbers, at most \
-                  8,192, where n counts the quantities with all helpers and D the halvings of \
-                  all their ranges",
+                  8,192, where n counts the quantities with all helpers (numbers, operations \
+                  and comparisons) and D the halvings of all their ranges",
         advice: "give tight ranges, write a size once as a declared quantity, declare a number \
                  that is compared often (`range limit 65535 65535`)",
     },
@@ -152,7 +152,7 @@ const ROWS: [Row; 19] = [
     Row {
         ground: Ground::Many,
         number: 29,
-        meaning: "more than 128 quantities, numbers and operations counted",
+        meaning: "more than 128 quantities, numbers, operations and comparisons counted",
         advice: "fewer rules, or declare repeated parts",
     },
     Row { ground: Ground::Undeclared, number: 30, meaning: "no quantity is declared", advice: "" },
