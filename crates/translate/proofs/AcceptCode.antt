@@ -1,42 +1,24 @@
--- What is held has room in the lists, and its fronts, copied, are what an acceptance gives.
+-- The fronts of what is held, copied, are what an acceptance gives; and where the walk ends otherwise, the lists lent stay as they came.
 use mathlib.Core.Path.{_≡_, refl, sym, ap, _∙_}
 use mathlib.Core.List.{List}
-use Prim.Native.Nat.{ℕ, _*_, _≤_}
-use native.Mathlib.Omega.{arith}
+use Prim.Native.Nat.{ℕ, _*_}
 use lib.IntN.{ℤ}
 use lib.ListN.{length, take}
 use borrow.Author.Tests.{eq-eqb, ne-eqb}
 use Rattle.meaning.specs.Lists.{nameBytes}
 use Rattle.meaning.specs.Draft.{Draft}
 use Rattle.meaning.specs.Grounds.{Outcome, refused, read, someDeclared}
-use Rattle.translate.specs.Translate.{countsOf, filled}
 use Rattle.meaning.specs.declared.Refusal.{Refusal}
 use Rattle.meaning.specs.declared.Refusal.the-variants as refusal
-use Rattle.translate.specs.declared.parts.Walked.{Walked}
-use Rattle.translate.specs.declared.parts.Walked.the-variants as walked
-use Rattle.translate.specs.declared.parts.Progress.{Progress}
+use Rattle.lines.specs.declared.parts.Progress.{Progress}
+use Rattle.lines.specs.inner.Stored.{Stored, Full, Standing, Holds}
+use Rattle.translate.specs.Translate.{countsOf, filled}
+use Rattle.translate.specs.declared.walk.Walked.{Walked}
+use Rattle.translate.specs.declared.walk.Walked.the-variants as walked
 use Rattle.translate.specs.declared.Counts.{Counts}
 use Rattle.translate.specs.declared.Translated.{Translated}
 use Rattle.translate.specs.declared.Translated.the-variants.{Accepted, Refused}
-use Rattle.translate.specs.inner.Stored.{Stored, Proper, Full, Standing, Holds, LinesRead, Gives, Accepts}
-
--- how far the fronts go
-pub record Room (g : Progress) : Type 0 where
-  pub ranges : 2 * g .quantities ≤ 256
-  pub primitives : 4 * g .primitives ≤ 1024
-  pub lengths : g .clauses ≤ 256
-  pub literals : g .literals ≤ 512
-  pub declared : g .declared ≤ 128
-
-pub room : {s : Draft} {g : Progress} {rs ps ns ls : List ℤ} {keys : List ℕ} → Stored s g rs ps ns ls keys → Proper s → Room g
-room h p =
-    record {
-      ranges = omega (arith, h .few);
-      primitives = omega (arith, h .few, h .quantities, h .primitives, p .primitives);
-      lengths = omega (arith, h .few, h .quantities, h .clauses, p .clauses);
-      literals = omega (arith, h .few, h .quantities, h .literals, p .literals);
-      declared = omega (arith, h .few, h .quantities, h .declared, h .alike);
-    }
+use Rattle.translate.specs.inner.Walk.{LinesRead, Gives, Accepts}
 
 abbrev pub countsIn : Progress → Counts
 countsIn g = record { quantities = g .quantities; declared = g .declared; primitives = g .primitives; clauses = g .clauses; literals = g .literals }

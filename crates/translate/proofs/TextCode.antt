@@ -16,7 +16,7 @@ use Rattle.sheet.proofs.Lines.{lines-at}
 use Rattle.meaning.specs.Draft.{blank}
 use Rattle.meaning.specs.Grounds.{shortLists, badText, firstLine, topOf, Outcome, refused, readLines, someDeclared, behindFirst, byVersion, outcomeOf}
 use Rattle.translate.specs.Translate.{judged, Translates}
-use Rattle.translate.specs.inner.Stored.{Lent, Gives}
+use Rattle.translate.specs.inner.Walk.{Lent, Gives}
 use Rattle.meaning.specs.declared.Refusal.{Refusal}
 use Rattle.meaning.specs.declared.Refusal.the-variants as refusal
 use Rattle.translate.specs.declared.Translated.{Translated}

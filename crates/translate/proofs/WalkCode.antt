@@ -1,6 +1,7 @@
 -- The walk through the lines: some sheet is held, and the lines from here on make of it what all lines make of the blank one. Each line goes on with the sheet that
 -- it makes, or decides by its fault; past the last line the sheet held is the outcome.
 use mathlib.Core.Path.{_≡_, refl, ap, _∙_}
+use mathlib.Core.Bool.{false}
 use mathlib.Core.List.{List, [], _∷_}
 use Prim.Native.Nat.{ℕ, suc, _+_, _-_, _≤_, _<_}
 use native.Mathlib.Numerals.{add-one}
@@ -10,15 +11,14 @@ use lib.ListN.{length, take, drop}
 use Rattle.sheet.specs.Lines.{linesOf}
 use Rattle.sheet.specs.inner.Places.{placeOf}
 use Rattle.sheet.proofs.Lines.{lines-at, lines-end}
+use Rattle.meaning.specs.Lists.{rangeList, primitiveList, lengthList, literalsIn, literalList}
 use Rattle.meaning.specs.Draft.{Draft, blank}
 use Rattle.meaning.specs.Grounds.{Outcome, refused, read, topOf, oneLine, readLines}
 use Rattle.meaning.specs.declared.Refusal.{Refusal}
-use Rattle.translate.specs.declared.parts.Progress.{Progress}
-use Rattle.translate.specs.declared.parts.Lined.{Lined}
-use Rattle.translate.specs.declared.parts.Lined.the-variants.{Next, Refused}
-use Rattle.translate.specs.inner.Stored.{Full, Standing, Holds, LineSays, Answers, lineBy}
-use Rattle.translate.proofs.RuleDraft.{proper-blank}
-use Rattle.translate.proofs.RangeHeld.{unread, stored-blank}
+use Rattle.lines.specs.declared.parts.Progress.{Progress}
+use Rattle.lines.specs.declared.parts.Lined.{Lined}
+use Rattle.lines.specs.declared.parts.Lined.the-variants.{Next, Refused}
+use Rattle.lines.specs.inner.Stored.{Stored, Proper, Full, Standing, Holds, LineSays, Answers, lineBy}
 
 -- ---- lines in a row
 module _ (top k : ℕ) (s : Draft) (l : List ℕ) (ls : List (List ℕ)) where
@@ -33,6 +33,34 @@ module _ (top k : ℕ) (s : Draft) (l : List ℕ) (ls : List (List ℕ)) where
 lines-none : (top k : ℕ) (s : Draft) → readLines top k s [] ≡ read s
 unfolding readLines
 lines-none top k s = refl
+
+-- ---- the blank sheet
+-- before the first line any lists hold the sheet
+abbrev pub unread : Progress
+unread = record { declared = 0; quantities = 0; primitives = 0; clauses = 0; literals = 0; ruled = false }
+
+stored-blank : (rs ps ns ls : List ℤ) (keys : List ℕ) → Stored blank unread rs ps ns ls keys
+unfolding rangeList primitiveList lengthList literalsIn literalList
+stored-blank rs ps ns ls keys =
+    record {
+      declared = refl;
+      alike = refl;
+      quantities = refl;
+      primitives = refl;
+      clauses = refl;
+      literals = refl;
+      ruled = refl;
+      range-front = refl;
+      primitive-front = refl;
+      length-front = refl;
+      literal-front = refl;
+      key-front = refl;
+      few = omega arith;
+    }
+
+proper-blank : Proper blank
+unfolding literalsIn
+proper-blank = record { good = tt; primitives = omega arith; clauses = omega arith; literals = omega arith; unruled = λ e. refl }
 
 -- ---- a step of the walk
 -- what the lines from a place on make of the blank sheet

@@ -1,4 +1,2 @@
-pub mod Emission
 pub mod Letters
-pub mod Stored
-pub mod Comparisons
+pub mod Walk

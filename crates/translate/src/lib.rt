@@ -1,13 +1,7 @@
 // Sheets to problems: the grounds in order, line by line, and the public call `translate`.
-mod expression;
-mod front;
-mod line;
 mod name;
-mod parts;
-mod rule;
 mod text;
 mod walk;
-mod writing;
 
 ghost use mathlib.Core.Path.{_≡_};
 ghost use mathlib.Core.Bool.{_||_};

@@ -3,17 +3,23 @@ ghost use lib.ListN.{drop};
 ghost use Rattle.sheet.specs.Lines.{linesOf};
 ghost use Rattle.meaning.specs.Draft.{blank};
 ghost use Rattle.meaning.specs.Grounds.{topOf, readLines, someDeclared};
-ghost use Rattle.translate.specs.inner.Stored.{Full, Standing, Lent, LinesRead, Accepts, Gives};
+ghost use Rattle.lines.specs.inner.Stored.{Full, Standing};
+ghost use Rattle.translate.specs.inner.Walk.{Lent, LinesRead, Accepts, Gives};
 use crate::Counts;
 use crate::Translated;
-use crate::front::copy;
-use crate::line::read_line;
 use crate::name::write;
-use crate::parts::Lined;
-use crate::parts::Progress;
-use crate::parts::Walked;
+use lines::front::copy;
+use lines::line::read_line;
+use lines::parts::Lined;
+use lines::parts::Progress;
 use meaning::Refusal;
 use sheet::line::line_end;
+
+// What the lines of a sheet come to: the counts, or the refusal and its line.
+pub enum Walked {
+    Read(Progress),
+    Refused { refusal: Refusal, line: usize },
+}
 
 // The lines from a place on, the first of them line 2: the first fault decides.
 fn read_lines(

@@ -4,7 +4,7 @@ use native.Mathlib.Omega.{arith}
 use borrow.Author.Needs.{needs}
 use borrow.Fn.Kinds.{In}
 use borrow.Fn.PlainCycle.{Measures, is, falls, and}
-use Rattle.translate.proofs.Filling.{letters-done, letters-none, letters-room, letters-more}
+use Rattle.translate.proofs.NamesWritten.{letters-done, letters-none, letters-room, letters-more}
 use Rattle.translate.proofs.name.letters.Reads as letters
 use Rattle.translate.proofs.name.letters.Kinds as letters-kinds
 use Rattle.translate.proofs.name.+letters.Lts-letters as letters-lts

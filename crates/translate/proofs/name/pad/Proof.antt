@@ -3,7 +3,7 @@ use mathlib.Core.Path.{_∙_, ap}
 use Prim.Native.Nat.{ℕ}
 use lib.ListN.{replicate}
 use borrow.Author.Needs.{needs}
-use Rattle.translate.proofs.Filling.{pad-is}
+use Rattle.translate.proofs.NamesWritten.{pad-is}
 use Rattle.translate.proofs.name.pad.Statement.{statement}
 use Rattle.translate.proofs.name.pad.Tie as tie
 

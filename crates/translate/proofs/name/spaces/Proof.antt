@@ -6,7 +6,7 @@ use native.Mathlib.Omega.{arith}
 use lib.ListN.{length, drop, replicate, length-set}
 use borrow.Author.Fill.{fill-more}
 use borrow.Author.Needs.{needs}
-use Rattle.translate.proofs.Filling.{fill-all}
+use Rattle.translate.proofs.NamesWritten.{fill-all}
 use Rattle.translate.proofs.name.spaces.Statement.{statement}
 use Rattle.translate.proofs.name.spaces.Tie as tie
 

@@ -7,7 +7,7 @@ use borrow.Author.Needs.{needs}
 use borrow.Rule.Slice.PartMut.{mid-len, same-len-mid}
 use Rattle.meaning.specs.Lists.{nameBytes}
 use Rattle.translate.specs.Translate.{filled}
-use Rattle.translate.proofs.Filling.{names-none, names-next, names-done}
+use Rattle.translate.proofs.NamesWritten.{names-none, names-next, names-done}
 use Rattle.translate.proofs.name.write.Statement.{statement}
 use Rattle.translate.proofs.name.write.Tie as tie
 

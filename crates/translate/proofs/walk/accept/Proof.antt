@@ -5,7 +5,8 @@ use mathlib.Core.Path.{sym}
 use lib.ListN.{length-take}
 use lib.Seq.{length-take-le}
 use borrow.Author.Needs.{needs}
-use Rattle.translate.proofs.AcceptCode.{room, accepts}
+use Rattle.lines.proofs.HeldRoom.{room}
+use Rattle.translate.proofs.AcceptCode.{accepts}
 use Rattle.translate.proofs.walk.accept.Statement.{statement}
 use Rattle.translate.proofs.walk.accept.Tie as tie
 

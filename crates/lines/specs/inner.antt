@@ -1,0 +1,3 @@
+pub mod Emission
+pub mod Comparisons
+pub mod Stored
