@@ -26,9 +26,9 @@ piecesOf (b ∷ bs) = cond (eqb b (word " ")) ([] ∷ piecesOf bs) (withFirst b 
 abbrev pub isDigit : ℕ → Bool
 isDigit b = leb (word "0") b && leb b (word "9")
 
--- K, M or G, for 1,000, 1,000,000 or 1,000,000,000; 0 for any other byte
+-- K, M or G, for 1,024, its square or its cube (document 02, L2); 0 for any other byte
 abbrev pub unitOf : ℕ → ℕ
-unitOf b = cond (eqb b (word "K")) 1_000 (cond (eqb b (word "M")) 1_000_000 (cond (eqb b (word "G")) 1_000_000_000 0))
+unitOf b = cond (eqb b (word "K")) 1_024 (cond (eqb b (word "M")) (1_024 * 1_024) (cond (eqb b (word "G")) (1_024 * 1_024 * 1_024) 0))
 
 -- the value is at most M = 10^12
 abbrev pub limited : ℕ → Value

@@ -87,8 +87,13 @@ values =
 -- numbers, their units, and the longest names
 abbrev pub numbers : List Case
 numbers =
-    says "must 2K + 3M = 3002000" [] (pos 3002000 ∷ pos 3002000 ∷ []) true
-    ∷ says "must 1000G = 1000000000000" [] (pos 1000000000000 ∷ pos 1000000000000 ∷ []) true
+    says "must 3K = 3072" [] (pos 3072 ∷ pos 3072 ∷ []) true
+    ∷ says "must 3M = 3145728" [] (pos 3145728 ∷ pos 3145728 ∷ []) true
+    ∷ says "must 4G = 4294967296" [] (pos 4294967296 ∷ pos 4294967296 ∷ []) true
+    ∷ says "must 2K + 3M < 1G" [] (pos 3147776 ∷ pos 1073741824 ∷ []) true
+    ∷ says "must 976562500K = 1000000000000" [] (pos 1000000000000 ∷ pos 1000000000000 ∷ []) true
+    ∷ says "must 953674M < 1000000000000" [] (pos 999999668224 ∷ pos 1000000000000 ∷ []) true
+    ∷ says "must 931G < 1000000000000" [] (pos 999653638144 ∷ pos 1000000000000 ∷ []) true
     ∷ says "must 0 = 0K" [] (pos 0 ∷ pos 0 ∷ []) true
     ∷ says "must abcdefgh < 9" (("abcdefgh", pos 8) ∷ []) (pos 8 ∷ pos 9 ∷ []) true
     ∷ []
@@ -111,6 +116,8 @@ ranges =
     ∷ says "range w -5 3" (at (pos 3) (pos 0)) (negℤ (pos 5) ∷ pos 3 ∷ []) true
     ∷ says "range w -5 3" (at (pos 4) (pos 0)) (negℤ (pos 5) ∷ pos 3 ∷ []) false
     ∷ says "range w 5 -3" (at (pos 0) (pos 0)) (pos 5 ∷ negℤ (pos 3) ∷ []) false
+    ∷ says "range w -931G 1K" (at (negℤ (pos 999653638144)) (pos 0)) (negℤ (pos 999653638144) ∷ pos 1024 ∷ []) true
+    ∷ says "range w -931G 1K" (at (negℤ (pos 999653638145)) (pos 0)) (negℤ (pos 999653638144) ∷ pos 1024 ∷ []) false
     ∷ says "range w" (at (pos 0) (pos 0)) [] true
     ∷ says "range w" (at (pos 1_000_000) (pos 0)) [] true
     ∷ says "range w" (at (pos 1_000_001) (pos 0)) [] false
@@ -146,7 +153,11 @@ unreads =
     ∷ unread " must a < b"
     ∷ unread "must a < b "
     ∷ unread "must 03 < a"
-    ∷ unread "must 1001G < a"
+    ∷ unread "must 976562501K < a"
+    ∷ unread "must 953675M < a"
+    ∷ unread "must 932G < a"
+    ∷ unread "must 1000G < a"
+    ∷ unread "range a -932G 0"
     ∷ unread "must 1000000000001 < a"
     ∷ unread "must 3k < a"
     ∷ unread "must A < b"

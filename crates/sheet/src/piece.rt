@@ -24,14 +24,14 @@ fn digit(b: u8) -> bool
     b'0' <= b && b <= b'9'
 }
 
-// What K, M or G stands for; 0 for any other byte.
+// What K, M or G stands for: 1,024, its square or its cube; 0 for any other byte.
 fn unit(b: u8) -> u64
     ensures { λ r. ⌜ r ≡ unitOf b ⌝ }
 {
     match b {
-        b'K' => 1_000,
-        b'M' => 1_000_000,
-        b'G' => 1_000_000_000,
+        b'K' => 1_024,
+        b'M' => 1_048_576,
+        b'G' => 1_073_741_824,
         _ => 0,
     }
 }
