@@ -180,8 +180,11 @@ fn desk_examples(list: &mut List) {
     list.desk("range x 0 3\nrange y 0 3\nmust x + y = 3", "FOUND 7\nx 0\ny 3\n");
     list.desk("range x 1 4\nmust x * x = 10", "NONE 4\n");
     list.desk("range eightlet -3 -3", "FOUND 1\neightlet -3\n");
-    list.desk("range a\nmust a <= 1000G", "FOUND 41\na 0\n");
-    list.desk("range a\nmust a <= 1001G", "REFUSED 24 3\n");
+    list.desk("range a\nmust a <= 931G", "FOUND 41\na 0\n");
+    list.desk("range a\nmust a <= 932G", "REFUSED 24 3\n");
+    list.desk("range a\nmust a <= 1000G", "REFUSED 24 3\n");
+    list.desk("range a 4G 4G", "FOUND 1\na 4294967296\n");
+    list.desk("range a 1K 1K\nrange b 1M 1M\nmust b = a ^2", "FOUND 1\na 1024\nb 1048576\n");
     list.desk("must 1 <= 2", "REFUSED 30 0\n");
     list.verdict("range a\nrange b\nmust a * b <= 5", Fine);
     list.verdict("range a\nrange b\nmust a * b + 1 <= 5", Not(28, 4));
@@ -419,7 +422,16 @@ fn line_limits(list: &mut List) {
     list.verdict("range a\nmust a < 1\nrange a 2 1", Not(24, 4));
     list.verdict("range a\nmust a < 1\nrange b", Not(24, 4));
     list.verdict("range a 0K 0G", Fine);
-    list.verdict("range a -1000G 1000000M", Fine);
+    list.verdict("range a -931G 953674M", Fine);
+    list.verdict("range a -976562500K 976562500K", Fine);
+    list.verdict("range a -932G 0", Not(24, 2));
+    list.verdict("range a 0 953675M", Not(24, 2));
+    list.verdict("range a 0 976562501K", Not(24, 2));
+    list.verdict("range a 0 17179869185G", Not(24, 2));
+    list.verdict("range a 1024 1K\nrange b 1048576 1M\nrange c 1073741824 1G", Fine);
+    list.verdict("range a 1K 1023", Not(26, 2));
+    list.verdict("range a 1M 1048575", Not(26, 2));
+    list.verdict("range a 1G 1073741823", Not(26, 2));
     list.verdict("range a -0 1", Not(24, 2));
     list.verdict("range a -0K 1", Not(24, 2));
     list.verdict("range a - 5 1", Not(24, 2));
@@ -433,19 +445,19 @@ fn line_limits(list: &mut List) {
     list.verdict("range a\nif a != 1 then a = 2", Not(27, 3));
     list.verdict("range a\nif a != 1 and a != 2 then a < 2", Not(27, 3));
     list.verdict("range a\nif a = 1 and a = 3 then a = 2 or a != 5 or a != 6", Fine);
-    list.verdict("range a\nmust 1000G + 1 > 0 or zz <", Not(24, 3));
-    list.verdict("range a\nmust 1000G + 1 > 0 or zz < 1", Not(25, 3));
-    list.verdict("range a\nmust 1000G + 1 > 0 or 1 = 1 or 2 = 2", Not(27, 3));
-    list.verdict("range a\nmust 1000G + 1 > 0", Not(28, 3));
-    list.verdict("range a\nmust 1000G + 0 > 0", Fine);
-    list.verdict("range a -1000G 0\nmust a <= 0", Fine);
-    list.verdict("range a -1000G 0\nmust a <= 1", Not(28, 3));
+    list.verdict("range a\nmust 1000000000000 + 1 > 0 or zz <", Not(24, 3));
+    list.verdict("range a\nmust 1000000000000 + 1 > 0 or zz < 1", Not(25, 3));
+    list.verdict("range a\nmust 1000000000000 + 1 > 0 or 1 = 1 or 2 = 2", Not(27, 3));
+    list.verdict("range a\nmust 1000000000000 + 1 > 0", Not(28, 3));
+    list.verdict("range a\nmust 1000000000000 + 0 > 0", Fine);
+    list.verdict("range a -1000000000000 0\nmust a <= 0", Fine);
+    list.verdict("range a -1000000000000 0\nmust a <= 1", Not(28, 3));
     list.verdict("range a 0 1000001\nmust a ^2 >= 0", Not(28, 3));
     list.verdict("range a -1000000 1000000\nmust a ^2 >= 0 and", Not(24, 3));
     list.verdict("range a -1000000 1000000\nmust a * a >= 0", Fine);
     list.verdict("range a -1000000 1000000\nmust a - a >= 0", Fine);
     list.verdict("range a 4294967296 4294967296\nmust a * a >= 0", Not(28, 3));
-    list.verdict("range a\nmust 1000G + 1 > 0\nnonsense", Not(28, 3));
+    list.verdict("range a\nmust 1000000000000 + 1 > 0\nnonsense", Not(28, 3));
     quantity_limits(list);
 }
 
@@ -465,7 +477,10 @@ fn quantity_limits(list: &mut List) {
     list.verdict(&format!("{}\nmust qaa < qab", declared(127)), Fine);
     list.verdict(&format!("{}\nmust qaa < 1", declared(127)), Not(29, 129));
     list.verdict(&format!("{}\nmust qaa < 1", declared(126)), Fine);
-    list.verdict(&format!("{}\nmust qaa < 1 or 1000G + 1 > 0", declared(128)), Not(28, 130));
+    list.verdict(
+        &format!("{}\nmust qaa < 1 or 1000000000000 + 1 > 0", declared(128)),
+        Not(28, 130),
+    );
     list.verdict(&format!("{}\nmust qaa < qab", declared(128)), Not(29, 130));
     // 64 quantities with D 63 need exactly 8,192 numbers; one value more
     // somewhere is too many.

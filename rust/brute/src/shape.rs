@@ -59,10 +59,10 @@ fn is_signed(piece: &str) -> bool {
 }
 
 fn is_number(piece: &str) -> bool {
-    let (digits, zeros) = match piece.chars().last() {
-        Some('K') => (&piece[..piece.len() - 1], 3),
-        Some('M') => (&piece[..piece.len() - 1], 6),
-        Some('G') => (&piece[..piece.len() - 1], 9),
+    let (digits, power) = match piece.chars().last() {
+        Some('K') => (&piece[..piece.len() - 1], 1),
+        Some('M') => (&piece[..piece.len() - 1], 2),
+        Some('G') => (&piece[..piece.len() - 1], 3),
         _ => (piece, 0),
     };
     let value: u128 = match digits.parse() {
@@ -70,7 +70,7 @@ fn is_number(piece: &str) -> bool {
         _ => return false,
     };
     // Writing the value again must give the same digits.
-    value.to_string() == digits && value * 10u128.pow(zeros) <= 1_000_000_000_000
+    value.to_string() == digits && value * 1_024u128.pow(power) <= 1_000_000_000_000
 }
 
 fn is_name(piece: &str) -> bool {

@@ -4,9 +4,13 @@
 use crate::problems::notable;
 use crate::random::Random;
 use crate::tree::{line_text, Comparison, Expr, Line, Rule};
+use crate::M;
 
 const OPS: [&str; 6] = ["<=", "<", ">=", ">", "=", "!="];
 const NAMES: [&str; 7] = ["a", "b", "x", "width", "ranges", "iff", "eightlet"];
+/// What no letter, K, M and G stand for.
+const UNITS: [(i64, &str); 4] =
+    [(1, ""), (1_024, "K"), (1_024 * 1_024, "M"), (1_024 * 1_024 * 1_024, "G")];
 
 /// What the expressions of a sheet are made of.
 struct Stuff {
@@ -43,7 +47,7 @@ pub fn faulty(random: &mut Random) -> Vec<Line> {
         names.extend((0..118 + random.below(14)).map(numbered));
     }
     for name in &names {
-        let (a, b) = (notable(random), notable(random));
+        let (a, b) = (sized(random), sized(random));
         // Many long lines would only make the text too long.
         let is_short = names.len() > 9 || random.once_in(2);
         let (a, b) = if is_short { (a % 1_000, b % 1_000) } else { (a, b) };
@@ -56,7 +60,7 @@ pub fn faulty(random: &mut Random) -> Vec<Line> {
         lines.push(range_line(random, &name, 0, 1));
     }
     let numbers = if random.once_in(3) {
-        |r: &mut Random| notable(r).abs()
+        |r: &mut Random| sized(r).abs()
     } else {
         |r: &mut Random| r.between(0, 50)
     };
@@ -111,10 +115,23 @@ fn range_line(random: &mut Random, name: &str, low: i64, high: i64) -> Line {
     Line::Range { name, low, high, tail }
 }
 
+/// A number within plus or minus M: a notable one, or a count of K, M or G,
+/// often near the most of them that M has room for.
+fn sized(random: &mut Random) -> i64 {
+    if !random.once_in(3) {
+        return notable(random);
+    }
+    let (unit, _) = *random.pick(&UNITS);
+    let most = M / unit;
+    let count =
+        if random.once_in(2) { most - random.between(0, 2) } else { random.between(0, most) };
+    let sign = if random.once_in(2) { -1 } else { 1 };
+    sign * count * unit
+}
+
 /// A number as text, with a suffix where one fits and chance has it.
 fn spelled(random: &mut Random, value: i64) -> String {
-    let (scale, suffix) =
-        *random.pick(&[(1, ""), (1_000, "K"), (1_000_000, "M"), (1_000_000_000, "G")]);
+    let (scale, suffix) = *random.pick(&UNITS);
     if value % scale == 0 {
         format!("{}{suffix}", value / scale)
     } else {
@@ -185,10 +202,13 @@ fn deep_rule(random: &mut Random) -> Line {
 
 /// Spoils a sound line so that it is surely malformed.
 fn malformed(random: &mut Random, line: &str) -> String {
-    const BAD_PIECES: [&str; 16] = [
+    const BAD_PIECES: [&str; 19] = [
         "-0",
         "007",
-        "1001G",
+        "932G",
+        "1000G",
+        "953675M",
+        "976562501K",
         "^3",
         "x^2",
         "A",
@@ -201,7 +221,7 @@ fn malformed(random: &mut Random, line: &str) -> String {
         "--5",
         "-0K",
         "1000000000001",
-        "18446744073709552K",
+        "17179869185G",
     ];
     let mut pieces: Vec<&str> = line.split(' ').collect();
     match random.below(12) {

@@ -67,7 +67,7 @@ pub fn spelled_numbers(random: &mut Random) -> String {
 }
 
 fn spelled(random: &mut Random, signed: bool) -> String {
-    const DIGITS: [&str; 14] = [
+    const DIGITS: [&str; 20] = [
         "0",
         "1",
         "9",
@@ -75,6 +75,12 @@ fn spelled(random: &mut Random, signed: bool) -> String {
         "999",
         "1000",
         "1001",
+        "931",
+        "932",
+        "953674",
+        "953675",
+        "976562500",
+        "976562501",
         "1000000",
         "1000001",
         "1000000000",

@@ -90,9 +90,9 @@ fn name(piece: &[u8]) -> Option<Name> {
 /// A number without sign, its value at most M.
 fn number(piece: &[u8]) -> Option<i64> {
     let (digits, scale) = match piece {
-        [digits @ .., b'K'] => (digits, 1_000),
-        [digits @ .., b'M'] => (digits, 1_000_000),
-        [digits @ .., b'G'] => (digits, 1_000_000_000),
+        [digits @ .., b'K'] => (digits, 1_024),
+        [digits @ .., b'M'] => (digits, 1_024 * 1_024),
+        [digits @ .., b'G'] => (digits, 1_024 * 1_024 * 1_024),
         digits => (digits, 1),
     };
     let value = plain_digits(digits, M)?.checked_mul(scale)?;
@@ -137,15 +137,20 @@ mod tests {
             ("0", Some(0)),
             ("0K", Some(0)),
             ("7", Some(7)),
-            ("12K", Some(12_000)),
-            ("1000G", Some(M)),
-            ("1000000M", Some(M)),
-            ("1000000000K", Some(M)),
+            ("12K", Some(12_288)),
+            ("1M", Some(1_048_576)),
+            ("4G", Some(4_294_967_296)),
+            ("931G", Some(999_653_638_144)),
+            ("932G", None),
+            ("1000G", None),
+            ("953674M", Some(999_999_668_224)),
+            ("953675M", None),
+            ("976562500K", Some(M)),
+            ("976562501K", None),
             ("1000000000000", Some(M)),
             ("1000000000001", None),
-            ("1001G", None),
-            ("1000000000G", None),
-            ("18446744073709552K", None),
+            ("17179869185G", None),
+            ("18014398509481985K", None),
             ("99999999999999999999999999", None),
             ("00", None),
             ("007", None),
@@ -164,8 +169,10 @@ mod tests {
     #[test]
     fn signed_numbers() {
         for (piece, value) in [
-            ("-1000G", Some(-M)),
-            ("-5K", Some(-5_000)),
+            ("-931G", Some(-999_653_638_144)),
+            ("-932G", None),
+            ("-976562500K", Some(-M)),
+            ("-5K", Some(-5_120)),
             ("-0", None),
             ("-0K", None),
             ("--5", None),

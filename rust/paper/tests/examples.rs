@@ -77,8 +77,10 @@ fn p12_halves_towards_minus_infinity() {
 
 #[test]
 fn the_other_examples() {
-    assert_eq!(desk("range a 1000G 1000G"), "FOUND 1\na 1000000000000\n");
-    assert_eq!(desk("range a 1001G 1001G"), "REFUSED 24 2\n");
+    assert_eq!(desk("range a 4G 4G"), "FOUND 1\na 4294967296\n");
+    assert_eq!(desk("range a 931G 931G"), "FOUND 1\na 999653638144\n");
+    assert_eq!(desk("range a 932G 932G"), "REFUSED 24 2\n");
+    assert_eq!(desk("range a 1000G 1000G"), "REFUSED 24 2\n");
     assert_eq!(desk("range a\nrange b\nmust a * b + 1 <= 5"), "REFUSED 28 4\n");
     assert!(desk("range a\nrange b\nmust a * b <= 5").starts_with("FOUND"));
     assert_eq!(desk("must 1 <= 2"), "REFUSED 30 0\n");

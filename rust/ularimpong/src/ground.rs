@@ -120,8 +120,8 @@ const ROWS: [Row; 19] = [
         ground: Ground::Form,
         number: 24,
         meaning: "the line is none of the forms, or a range line stands after a rule",
-        advice: "look at spaces round brackets and signs, `^2`, numbers as `007` or `1001G`, \
-                 negative numbers in a rule, empty lines, nine letters, upper case",
+        advice: "look at spaces round brackets and signs, `^2`, numbers as `007` or `1000G` \
+                 (above 10^12), negative numbers in a rule, empty lines, nine letters, upper case",
     },
     Row {
         ground: Ground::Names,
