@@ -16,6 +16,10 @@ bytes-then w [] b = refl
 bytes-then w (x ∷ a) b = bytes-then (putByte w x) a b
 
 module _ (l : List ℕ) (i : ℕ) where
+  pub puts-none : Puts [] l i l i
+  unfolding putBytes
+  puts-none = record { is = refl }
+
   pub puts-one : (b : ℕ) → i < length l → Puts (b ∷ []) l i (set l i b) (i + 1)
   unfolding putBytes putByte
   puts-one b h = record { is = rw (lt-ltb i (length l) h) }

@@ -89,13 +89,13 @@ rest-short [] = omega arith
 rest-short (t ∷ ts) = omega arith
 
 -- ---- the whole line
-module _ (l : List ℕ) (g : Progress) (rs ps ns ls : List ℤ) (keys : List ℕ) (rs′ ps′ ns′ ls′ : List ℤ) (keys′ : List ℕ) where
-  pub line-deep : tooDeep (tokensOf l) ≡ true → Answers (lineBy l) g rs ps ns ls keys rs′ ps′ ns′ ls′ keys′ (Refused refusal.Brackets)
+module _ (version : ℕ) (l : List ℕ) (g : Progress) (rs ps ns ls : List ℤ) (keys : List ℕ) (rs′ ps′ ns′ ls′ : List ℤ) (keys′ : List ℕ) where
+  pub line-deep : tooDeep (tokensOf l) ≡ true → Answers (lineBy version l) g rs ps ns ls keys rs′ ps′ ns′ ls′ keys′ (Refused refusal.Brackets)
   unfolding oneLine
   line-deep e = record { says = λ s k h p. rw e }
 
   module _ (flat : tooDeep (tokensOf l) ≡ false) (t : Token) (next : ℕ) (first : (t ≡ headOf (tokensFrom l 0)) × (tokensFrom l next ≡ restOf (tokensFrom l 0))) where
-    by-tree : (o : Option Line) (r : Lined) → readLine (tokensOf l) ≡ o → Answers (treeBy o) g rs ps ns ls keys rs′ ps′ ns′ ls′ keys′ r → Answers (lineBy l) g rs ps ns ls keys rs′ ps′ ns′ ls′ keys′ r
+    by-tree : (o : Option Line) (r : Lined) → readLine (tokensOf l) ≡ o → Answers (treeBy version o) g rs ps ns ls keys rs′ ps′ ns′ ls′ keys′ r → Answers (lineBy version l) g rs ps ns ls keys rs′ ps′ ns′ ls′ keys′ r
     unfolding oneLine
     by-tree o r e a = record { says = λ s k h p. rw (flat, e) (a .says s k h p) }
 
@@ -105,21 +105,21 @@ module _ (l : List ℕ) (g : Progress) (rs ps ns ls : List ℤ) (keys : List ℕ
     rest-is : restOf (tokensOf l) ≡ tokensFrom l next
     rest-is = sym (first .1 ∙ ap restOf (from-start l))
 
-    pub line-range : (r : Lined) → t ≡ Fixed Range → Answers (treeBy (readRange (tokensFrom l next))) g rs ps ns ls keys rs′ ps′ ns′ ls′ keys′ r → Answers (lineBy l) g rs ps ns ls keys rs′ ps′ ns′ ls′ keys′ r
+    pub line-range : (r : Lined) → t ≡ Fixed Range → Answers (treeBy version (readRange (tokensFrom l next))) g rs ps ns ls keys rs′ ps′ ns′ ls′ keys′ r → Answers (lineBy version l) g rs ps ns ls keys rs′ ps′ ns′ ls′ keys′ r
     line-range r e a = by-tree (readRange (tokensFrom l next)) r (range-read (tokensOf l) (head-is ∙ e) ∙ ap readRange rest-is) a
 
     bound : 8 * length (tokensFrom l next) + 8 ≤ 8 * length (tokensOf l) + 8
     bound = omega (arith, rest-short (tokensOf l), ap length rest-is)
 
-    pub line-must : (r : Lined) → t ≡ Fixed Must → ((n : ℕ) → 8 * length (tokensFrom l next) + 8 ≤ n → Answers (treeBy (ruleF false n (tokensFrom l next))) g rs ps ns ls keys rs′ ps′ ns′ ls′ keys′ r) → Answers (lineBy l) g rs ps ns ls keys rs′ ps′ ns′ ls′ keys′ r
+    pub line-must : (r : Lined) → t ≡ Fixed Must → ((n : ℕ) → 8 * length (tokensFrom l next) + 8 ≤ n → Answers (treeBy version (ruleF false n (tokensFrom l next))) g rs ps ns ls keys rs′ ps′ ns′ ls′ keys′ r) → Answers (lineBy version l) g rs ps ns ls keys rs′ ps′ ns′ ls′ keys′ r
     line-must r e a =
         let n = 8 * length (tokensOf l) + 8 in
         by-tree (ruleF false n (tokensFrom l next)) r (must-read (tokensOf l) (head-is ∙ e) ∙ ap (ruleF false n) rest-is) (a n bound)
 
-    pub line-if : (r : Lined) → t ≡ Fixed If → ((n : ℕ) → 8 * length (tokensFrom l next) + 8 ≤ n → Answers (treeBy (ruleF true n (tokensFrom l next))) g rs ps ns ls keys rs′ ps′ ns′ ls′ keys′ r) → Answers (lineBy l) g rs ps ns ls keys rs′ ps′ ns′ ls′ keys′ r
+    pub line-if : (r : Lined) → t ≡ Fixed If → ((n : ℕ) → 8 * length (tokensFrom l next) + 8 ≤ n → Answers (treeBy version (ruleF true n (tokensFrom l next))) g rs ps ns ls keys rs′ ps′ ns′ ls′ keys′ r) → Answers (lineBy version l) g rs ps ns ls keys rs′ ps′ ns′ ls′ keys′ r
     line-if r e a =
         let n = 8 * length (tokensOf l) + 8 in
         by-tree (ruleF true n (tokensFrom l next)) r (if-read (tokensOf l) (head-is ∙ e) ∙ ap (ruleF true n) rest-is) (a n bound)
 
-    pub line-other : Other t → Answers (lineBy l) g rs ps ns ls keys rs′ ps′ ns′ ls′ keys′ (Refused refusal.Form)
+    pub line-other : Other t → Answers (lineBy version l) g rs ps ns ls keys rs′ ps′ ns′ ls′ keys′ (Refused refusal.Form)
     line-other o = by-tree none (Refused refusal.Form) (other-read (tokensOf l) (rw head-is o)) (record { says = λ s k h p. refl })

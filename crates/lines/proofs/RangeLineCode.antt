@@ -27,7 +27,7 @@ use Rattle.sheet.specs.declared.Declaration.the-variants.{Plain, Ranged, No}
 use Rattle.meaning.specs.Plain.{placeOf, isIn, asksOf}
 use Rattle.meaning.specs.Translation.{gaps, equalities}
 use Rattle.meaning.specs.Draft.{Draft, quantitiesIn, declare, after}
-use Rattle.meaning.specs.Grounds.{anyBeyond, treeFault, refused, read, orRefused, topOf}
+use Rattle.meaning.specs.Grounds.{anyBeyond, treeFault, refused, read, orRefused, topOf, lineOutcome}
 use Rattle.meaning.specs.declared.Refusal.{Refusal}
 use Rattle.meaning.specs.declared.Refusal.the-variants as refusal
 use Rattle.lines.specs.declared.parts.Progress.{Progress}
@@ -35,6 +35,7 @@ use Rattle.lines.specs.declared.parts.Lined.{Lined}
 use Rattle.lines.specs.declared.parts.Lined.the-variants.{Next, Refused}
 use Rattle.lines.specs.inner.Emission.{putRange}
 use Rattle.lines.specs.inner.Stored.{Stored, Answers, treeBy, DeclaresIn}
+use Rattle.meaning.proofs.LinesFit.{top-near}
 use Rattle.lines.proofs.Flags.{is-in-is}
 use Rattle.lines.proofs.ListFronts.{put-range-next}
 use Rattle.lines.proofs.RuleDraft.{proper-declare}
@@ -64,32 +65,32 @@ one-more : (s : Draft) (n : ℕ) (low high : ℤ) → quantitiesIn (declare s n 
 one-more s n low high = omega (arith, length-append (s .declared) (range low high ∷ []))
 
 -- a fault is the outcome
-faulty : (s : Draft) (k n : ℕ) (low high : ℤ) (late twice order many : Bool) (g : Refusal) → s .ruled ≡ late → isIn (s .names) n ≡ twice → ltZ high low ≡ order → ltb 128 (quantitiesIn (declare s n (range low high))) ≡ many → grounds late twice order many ≡ some g → treeBy (some (ranged n low high)) s k ≡ refused g k
-faulty s k n low high late twice order many g a b c d e =
-    let f : treeFault (topOf 1) s (ranged n low high) ≡ some g = fault-is (topOf 1) s n low high ∙ rw (a, b, c, d) e in
-    ap (λ (o : Option Refusal). orRefused o k (read (after (topOf 1) s (ranged n low high)))) f
+faulty : (version : ℕ) (s : Draft) (k n : ℕ) (low high : ℤ) (late twice order many : Bool) (g : Refusal) → s .ruled ≡ late → isIn (s .names) n ≡ twice → ltZ high low ≡ order → ltb 128 (quantitiesIn (declare s n (range low high))) ≡ many → grounds late twice order many ≡ some g → treeBy version (some (ranged n low high)) s k ≡ refused g k
+faulty version s k n low high late twice order many g a b c d e =
+    let f : treeFault (topOf version) s (ranged n low high) ≡ some g = fault-is (topOf version) s n low high ∙ rw (a, b, c, d) e in
+    ap (λ (o : Option Refusal). orRefused o k (read (after (topOf version) s (ranged n low high)))) f
 
-faultless : (s : Draft) (k n : ℕ) (low high : ℤ) → s .ruled ≡ false → isIn (s .names) n ≡ false → ltZ high low ≡ false → ltb 128 (quantitiesIn (declare s n (range low high))) ≡ false → treeBy (some (ranged n low high)) s k ≡ read (declare s n (range low high))
+faultless : (version : ℕ) (s : Draft) (k n : ℕ) (low high : ℤ) → s .ruled ≡ false → isIn (s .names) n ≡ false → ltZ high low ≡ false → ltb 128 (quantitiesIn (declare s n (range low high))) ≡ false → treeBy version (some (ranged n low high)) s k ≡ read (declare s n (range low high))
 unfolding after grounds
-faultless s k n low high a b c d =
-    let f : treeFault (topOf 1) s (ranged n low high) ≡ none = fault-is (topOf 1) s n low high ∙ rw (a, b, c, d) in
-    ap (λ (o : Option Refusal). orRefused o k (read (after (topOf 1) s (ranged n low high)))) f
+faultless version s k n low high a b c d =
+    let f : treeFault (topOf version) s (ranged n low high) ≡ none = fault-is (topOf version) s n low high ∙ rw (a, b, c, d) in
+    ap (λ (o : Option Refusal). orRefused o k (read (after (topOf version) s (ranged n low high)))) f
 
-module _ (n : ℕ) (low high : ℤ) (g : Progress) (rs ps ns ls : List ℤ) (keys : List ℕ) (rs′ : List ℤ) (keys′ : List ℕ) where
+module _ (version n : ℕ) (low high : ℤ) (g : Progress) (rs ps ns ls : List ℤ) (keys : List ℕ) (rs′ : List ℤ) (keys′ : List ℕ) where
   -- 24: after a rule
-  pub declare-late : g .ruled ≡ true → Answers (treeBy (some (ranged n low high))) g rs ps ns ls keys rs′ ps ns ls keys′ (Refused refusal.Form)
+  pub declare-late : g .ruled ≡ true → Answers (treeBy version (some (ranged n low high))) g rs ps ns ls keys rs′ ps ns ls keys′ (Refused refusal.Form)
   unfolding grounds
-  declare-late e = record { says = λ s k h p. faulty s k n low high true _ _ _ refusal.Form (sym (h .ruled) ∙ e) refl refl refl refl }
+  declare-late e = record { says = λ s k h p. faulty version s k n low high true _ _ _ refusal.Form (sym (h .ruled) ∙ e) refl refl refl refl }
 
   module _ (early : g .ruled ≡ false) where
     -- 25: declared twice
-    pub declare-twice : placeOf (take (g .declared) keys) n < g .declared → Answers (treeBy (some (ranged n low high))) g rs ps ns ls keys rs′ ps ns ls keys′ (Refused refusal.Names)
+    pub declare-twice : placeOf (take (g .declared) keys) n < g .declared → Answers (treeBy version (some (ranged n low high))) g rs ps ns ls keys rs′ ps ns ls keys′ (Refused refusal.Names)
     unfolding grounds
     declare-twice t =
         record {
           says = λ s k h p.
               let e : placeOf (s .names) n < length (s .names) = rw (h .key-front, h .declared) at t in
-              faulty s k n low high false true _ _ refusal.Names (sym (h .ruled) ∙ early) (is-in-is (s .names) n ∙ lt-ltb _ _ e) refl refl refl;
+              faulty version s k n low high false true _ _ refusal.Names (sym (h .ruled) ∙ early) (is-in-is (s .names) n ∙ lt-ltb _ _ e) refl refl refl;
         }
 
     module _ (fresh : g .declared ≤ placeOf (take (g .declared) keys) n) where
@@ -99,30 +100,30 @@ module _ (n : ℕ) (low high : ℤ) (g : Progress) (rs ps ns ls : List ℤ) (key
           is-in-is (s .names) n ∙ le-ltb _ _ e
 
       -- 26: low above high
-      pub declare-order : ltZ high low ≡ true → Answers (treeBy (some (ranged n low high))) g rs ps ns ls keys rs′ ps ns ls keys′ (Refused refusal.Order)
+      pub declare-order : ltZ high low ≡ true → Answers (treeBy version (some (ranged n low high))) g rs ps ns ls keys rs′ ps ns ls keys′ (Refused refusal.Order)
       unfolding grounds
-      declare-order o = record { says = λ s k h p. faulty s k n low high false false true _ refusal.Order (sym (h .ruled) ∙ early) (new-name s h) o refl refl }
+      declare-order o = record { says = λ s k h p. faulty version s k n low high false false true _ refusal.Order (sym (h .ruled) ∙ early) (new-name s h) o refl refl }
 
       module _ (o : ltZ high low ≡ false) where
         -- 29: more than 128 quantities
-        pub declare-many : 128 ≤ g .quantities → Answers (treeBy (some (ranged n low high))) g rs ps ns ls keys rs′ ps ns ls keys′ (Refused refusal.Many)
+        pub declare-many : 128 ≤ g .quantities → Answers (treeBy version (some (ranged n low high))) g rs ps ns ls keys rs′ ps ns ls keys′ (Refused refusal.Many)
         unfolding grounds
         declare-many m =
             record {
               says = λ s k h p.
-                  faulty s k n low high false false false true refusal.Many (sym (h .ruled) ∙ early) (new-name s h) o
+                  faulty version s k n low high false false false true refusal.Many (sym (h .ruled) ∙ early) (new-name s h) o
                   (lt-ltb 128 (quantitiesIn (declare s n (range low high))) (omega (arith, one-more s n low high, h .quantities))) refl;
             }
 
         -- a quantity more
-        pub declare-next : Near low → Near high → DeclaresIn g rs keys → g .quantities < 128 → rs′ ≡ putRange rs (g .quantities) (range (at low) (at high)) → keys′ ≡ set keys (g .declared) n → Answers (treeBy (some (ranged n low high))) g rs ps ns ls keys rs′ ps ns ls keys′ (Next (record { declared = g .declared + 1; quantities = g .quantities + 1; primitives = g .primitives; clauses = g .clauses; literals = g .literals; ruled = false }))
+        pub declare-next : Near low → Near high → DeclaresIn g rs keys → g .quantities < 128 → rs′ ≡ putRange rs (g .quantities) (range (at low) (at high)) → keys′ ≡ set keys (g .declared) n → Answers (treeBy version (some (ranged n low high))) g rs ps ns ls keys rs′ ps ns ls keys′ (Next (record { declared = g .declared + 1; quantities = g .quantities + 1; primitives = g .primitives; clauses = g .clauses; literals = g .literals; ruled = false }))
         declare-next nl nh room q er ek =
             record {
               says = λ s k h p.
                   let few : quantitiesIn (declare s n (range low high)) ≤ 128 = omega (arith, one-more s n low high, h .quantities) in
                   record {
                     draft = declare s n (range low high);
-                    outcome = faultless s k n low high (sym (h .ruled) ∙ early) (new-name s h) o (le-ltb _ _ few);
+                    outcome = faultless version s k n low high (sym (h .ruled) ∙ early) (new-name s h) o (le-ltb _ _ few);
                     stored = stored-declared h p rs′ keys′ n (range low high) (sym (h .ruled) ∙ early)
                         (record { declared = refl; quantities = refl; primitives = refl; clauses = refl; literals = refl; ruled = sym early })
                         (omega arith)
@@ -134,9 +135,17 @@ module _ (n : ℕ) (low high : ℤ) (g : Progress) (rs ps ns ls : List ℤ) (key
 
 -- ---- what stands behind `range`
 -- the default range is 0 to its top
-same-default : (s : Draft) (k n : ℕ) → treeBy (some (default n)) s k ≡ treeBy (some (ranged n (pos 0) (pos 1_000_000))) s k
+same-default : (version : ℕ) (s : Draft) (k n : ℕ) → treeBy version (some (default n)) s k ≡ treeBy version (some (ranged n (pos 0) (pos (topOf version)))) s k
 unfolding treeFault asksOf after
-same-default s k n = refl
+same-default version s k n = by (eqb version 1)
+  where
+    by : (b : Bool) → (let top : ℕ = cond b 1_000_000 200_000 in lineOutcome top s k (some (default n)) ≡ lineOutcome top s k (some (ranged n (pos 0) (pos top))))
+    by true = refl
+    by false = refl
+
+-- and that top is within plus or minus M
+pub top-told : (version : ℕ) {top : ℤ} → top ≡ pos (topOf version) → Near top
+top-told version e = rw e (record { low = omega ints; high = omega (ints, top-near version) })
 
 -- what a declaration says of the tree
 is-ranged : (o : Option Line) (n : ℕ) (low high : ℤ) → declarationOf o ≡ Ranged n low high → o ≡ some (ranged n low high)
@@ -196,15 +205,17 @@ range-near (n ∷ (l ∷ (h ∷ []))) m low high a e = by (eqb (tokenNo n) 2 && 
     by false f = absurd (let z : _≡_ {A = ℕ} 0 1 = cc in omega arith)
 range-near (n ∷ (l ∷ (h ∷ (t ∷ ts)))) m low high a e = absurd (let z : _≡_ {A = ℕ} 0 1 = cc in omega arith)
 
-module _ (o : Option Line) (g : Progress) (rs ps ns ls : List ℤ) (keys : List ℕ) (rs′ : List ℤ) (keys′ : List ℕ) (r : Lined) where
-  by-tree : (l : Line) → o ≡ some l → Answers (treeBy (some l)) g rs ps ns ls keys rs′ ps ns ls keys′ r → Answers (treeBy o) g rs ps ns ls keys rs′ ps ns ls keys′ r
+module _ (version : ℕ) (o : Option Line) (g : Progress) (rs ps ns ls : List ℤ) (keys : List ℕ) (rs′ : List ℤ) (keys′ : List ℕ) (r : Lined) where
+  by-tree : (l : Line) → o ≡ some l → Answers (treeBy version (some l)) g rs ps ns ls keys rs′ ps ns ls keys′ r → Answers (treeBy version o) g rs ps ns ls keys rs′ ps ns ls keys′ r
   by-tree l e a = rw e a
 
-  pub says-ranged : (n : ℕ) (low high : ℤ) → declarationOf o ≡ Ranged n low high → Near low × Near high → Answers (treeBy (some (ranged n (at low) (at high)))) g rs ps ns ls keys rs′ ps ns ls keys′ r → Answers (treeBy o) g rs ps ns ls keys rs′ ps ns ls keys′ r
+  pub says-ranged : (n : ℕ) (low high : ℤ) → declarationOf o ≡ Ranged n low high → Near low × Near high → Answers (treeBy version (some (ranged n (at low) (at high)))) g rs ps ns ls keys rs′ ps ns ls keys′ r → Answers (treeBy version o) g rs ps ns ls keys rs′ ps ns ls keys′ r
   says-ranged n low high e near a = by-tree (ranged n low high) (is-ranged o n low high e) (rw (rn low (near .0), rn high (near .1)) at a)
 
-  pub says-plain : (n : ℕ) → declarationOf o ≡ Plain n → Answers (treeBy (some (ranged n (pos 0) (pos 1_000_000)))) g rs ps ns ls keys rs′ ps ns ls keys′ r → Answers (treeBy o) g rs ps ns ls keys rs′ ps ns ls keys′ r
-  says-plain n e a = by-tree (default n) (is-plain o n e) (record { says = λ s k h p. rw (same-default s k n) (a .says s k h p) })
+  pub says-plain : (n : ℕ) (top : ℤ) → declarationOf o ≡ Plain n → top ≡ pos (topOf version) → Answers (treeBy version (some (ranged n (pos 0) (at top)))) g rs ps ns ls keys rs′ ps ns ls keys′ r → Answers (treeBy version o) g rs ps ns ls keys rs′ ps ns ls keys′ r
+  says-plain n top e z a =
+      let b : Answers (treeBy version (some (ranged n (pos 0) (pos (topOf version))))) g rs ps ns ls keys rs′ ps ns ls keys′ r = rw (rn top (top-told version z), z) at a in
+      by-tree (default n) (is-plain o n e) (record { says = λ s k h p. rw (same-default version s k n) (b .says s k h p) })
 
-  pub says-none : r ≡ Refused refusal.Form → o ≡ none → Answers (treeBy o) g rs ps ns ls keys rs′ ps ns ls keys′ r
+  pub says-none : r ≡ Refused refusal.Form → o ≡ none → Answers (treeBy version o) g rs ps ns ls keys rs′ ps ns ls keys′ r
   says-none e f = rw (e, f) (record { says = λ s k h p. refl })

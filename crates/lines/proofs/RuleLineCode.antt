@@ -85,9 +85,9 @@ abbrev pub behindOf : Progress → List ℤ → List ℤ
 behindOf g ls = midOf (3 * g .literals) (length ls - 3 * g .literals) ls
 
 -- b is whether the rule has an if part, ts its tokens behind the first; the firsts go behind the earlier literals, the seconds into a list of their own
-module _ (b : Bool) (ts : List Token) (g : Progress) (rs ps ns ls : List ℤ) (keys : List ℕ) (ss : List ℤ) where
+module _ (version : ℕ) (b : Bool) (ts : List Token) (g : Progress) (rs ps ns ls : List ℤ) (keys : List ℕ) (ss : List ℤ) where
   -- no such rule: 24
-  pub rule-unread : (rs′ ps′ fs′ ss′ rs″ ps″ ns″ ls″ : List ℤ) (keys″ : List ℕ) → Rules (λ k. ruleF b k ts) (take (g .declared) keys) (length ts) (startOf g rs ps (behindOf g ls) ss) Unread rs′ ps′ fs′ ss′ → (n : ℕ) → 8 * length ts + 8 ≤ n → Answers (treeBy (ruleF b n ts)) g rs ps ns ls keys rs″ ps″ ns″ ls″ keys″ (Refused refusal.Form)
+  pub rule-unread : (rs′ ps′ fs′ ss′ rs″ ps″ ns″ ls″ : List ℤ) (keys″ : List ℕ) → Rules (λ k. ruleF b k ts) (take (g .declared) keys) (length ts) (startOf g rs ps (behindOf g ls) ss) Unread rs′ ps′ fs′ ss′ → (n : ℕ) → 8 * length ts + 8 ≤ n → Answers (treeBy version (ruleF b n ts)) g rs ps ns ls keys rs″ ps″ ns″ ls″ keys″ (Refused refusal.Form)
   rule-unread rs′ ps′ fs′ ss′ rs″ ps″ ns″ ls″ keys″ h n l =
       let e = unheard (ruleF b n ts) (take (g .declared) keys) (startOf g rs ps (behindOf g ls) ss) (h .agrees n l) in
       rw e (record { says = λ s k i p. refl })
@@ -109,32 +109,32 @@ module _ (b : Bool) (ts : List Token) (g : Progress) (rs ps ns ls : List ℤ) (k
         rw q (rule-listed i p x a-rule (behindOf g ls) ss (full .ranges) (full .primitives) (omega (arith, f, full .literals, r .literals)) (omega arith))
 
     -- so a ground that they tell is the outcome
-    faulty : (rs″ ps″ ns″ ls″ : List ℤ) (keys″ : List ℕ) (refusal : Refusal) → faultOf (listingFrom m c e rs′ ps′ fs′ ss′) ≡ some refusal → Answers (treeBy (ruleF b n ts)) g rs ps ns ls keys rs″ ps″ ns″ ls″ keys″ (Refused refusal)
+    faulty : (rs″ ps″ ns″ ls″ : List ℤ) (keys″ : List ℕ) (refusal : Refusal) → faultOf (listingFrom m c e rs′ ps′ fs′ ss′) ≡ some refusal → Answers (treeBy version (ruleF b n ts)) g rs ps ns ls keys rs″ ps″ ns″ ls″ keys″ (Refused refusal)
     faulty rs″ ps″ ns″ ls″ keys″ refusal f =
         record {
           says = λ s k i p.
               let x = tree .line in
-              let q : treeFault (topOf 1) s x ≡ some refusal = fault-is (told s i p) a-rule (topOf 1) ∙ f in
+              let q : treeFault (topOf version) s x ≡ some refusal = fault-is (told s i p) a-rule (topOf version) ∙ f in
               rw (tree .tree, q);
         }
 
     -- 25
-    pub rule-names : (rs″ ps″ ns″ ls″ : List ℤ) (keys″ : List ℕ) → m .unknown ≡ true → Answers (treeBy (ruleF b n ts)) g rs ps ns ls keys rs″ ps″ ns″ ls″ keys″ (Refused refusal.Names)
+    pub rule-names : (rs″ ps″ ns″ ls″ : List ℤ) (keys″ : List ℕ) → m .unknown ≡ true → Answers (treeBy version (ruleF b n ts)) g rs ps ns ls keys rs″ ps″ ns″ ls″ keys″ (Refused refusal.Names)
     rule-names rs″ ps″ ns″ ls″ keys″ u = faulty rs″ ps″ ns″ ls″ keys″ refusal.Names (rw u)
 
     module _ (u : m .unknown ≡ false) where
       -- 27
-      pub rule-equalities : (rs″ ps″ ns″ ls″ : List ℤ) (keys″ : List ℕ) → 1 < e → Answers (treeBy (ruleF b n ts)) g rs ps ns ls keys rs″ ps″ ns″ ls″ keys″ (Refused refusal.Equalities)
+      pub rule-equalities : (rs″ ps″ ns″ ls″ : List ℤ) (keys″ : List ℕ) → 1 < e → Answers (treeBy version (ruleF b n ts)) g rs ps ns ls keys rs″ ps″ ns″ ls″ keys″ (Refused refusal.Equalities)
       rule-equalities rs″ ps″ ns″ ls″ keys″ q = faulty rs″ ps″ ns″ ls″ keys″ refusal.Equalities (rw (u, lt-ltb 1 e q))
 
       module _ (q : e ≤ 1) where
         -- 28
-        pub rule-beyond : (rs″ ps″ ns″ ls″ : List ℤ) (keys″ : List ℕ) → m .wide ≡ true → Answers (treeBy (ruleF b n ts)) g rs ps ns ls keys rs″ ps″ ns″ ls″ keys″ (Refused refusal.Beyond)
+        pub rule-beyond : (rs″ ps″ ns″ ls″ : List ℤ) (keys″ : List ℕ) → m .wide ≡ true → Answers (treeBy version (ruleF b n ts)) g rs ps ns ls keys rs″ ps″ ns″ ls″ keys″ (Refused refusal.Beyond)
         rule-beyond rs″ ps″ ns″ ls″ keys″ w = faulty rs″ ps″ ns″ ls″ keys″ refusal.Beyond (rw (u, le-ltb 1 e q, w))
 
         module _ (w : m .wide ≡ false) where
           -- 29
-          pub rule-many : (rs″ ps″ ns″ ls″ : List ℤ) (keys″ : List ℕ) → 128 < m .used → Answers (treeBy (ruleF b n ts)) g rs ps ns ls keys rs″ ps″ ns″ ls″ keys″ (Refused refusal.Many)
+          pub rule-many : (rs″ ps″ ns″ ls″ : List ℤ) (keys″ : List ℕ) → 128 < m .used → Answers (treeBy version (ruleF b n ts)) g rs ps ns ls keys rs″ ps″ ns″ ls″ keys″ (Refused refusal.Many)
           rule-many rs″ ps″ ns″ ls″ keys″ v = faulty rs″ ps″ ns″ ls″ keys″ refusal.Many (rw (u, le-ltb 1 e q, w, lt-ltb 128 (m .used) v))
 
           -- none: the clauses have room
@@ -187,15 +187,15 @@ module _ (b : Bool) (ts : List Token) (g : Progress) (rs ps ns ls : List ℤ) (k
                   (rw f at (d .literal-front)) ∙ ap (λ (z : List ℤ). z ++ take (3 * c) ss′) (first-front s i p) ∙ append-assoc (take (3 * g .literals) ls) (take (3 * c) fs′) (take (3 * c) ss′) in
                   stored-two i (with-rule s i p) ns″ ls″ f (advanced 2 o) (rw f at (d .length-front)) y
 
-              pub rule-next : Answers (treeBy (ruleF b n ts)) g rs ps ns ls keys rs′ ps′ ns″ ls″ keys (Next g″)
+              pub rule-next : Answers (treeBy version (ruleF b n ts)) g rs ps ns ls keys rs′ ps′ ns″ ls″ keys (Next g″)
               rule-next =
                   record {
                     says = λ s k i p.
                         let x = tree .line in
-                        let f : treeFault (topOf 1) s x ≡ none = fault-is (told s i p) a-rule (topOf 1) ∙ rw (u, le-ltb 1 e q, w, le-ltb 128 (m .used) v) in
+                        let f : treeFault (topOf version) s x ≡ none = fault-is (told s i p) a-rule (topOf version) ∙ rw (u, le-ltb 1 e q, w, le-ltb 128 (m .used) v) in
                         record {
                           draft = rule s x;
-                          outcome = rw (tree .tree, f) (ap read (after-rule (topOf 1) s x a-rule));
+                          outcome = rw (tree .tree, f) (ap read (after-rule (topOf version) s x a-rule));
                           stored = store s i p (eqb e 0) refl;
                           proper = proper-rule s x a-rule p;
                         };

@@ -1,13 +1,15 @@
 // One line of a sheet: 23, then a range line or a rule by its first token.
+ghost use mathlib.Core.Path.{_≡_};
 ghost use mathlib.Core.Option.{some};
 ghost use Prim.Native.Nat.{ℕ, _+_, _*_, _≤_};
 ghost use mathlib.Core.List.{List};
-ghost use lib.IntN.{ℤ};
+ghost use lib.IntN.{ℤ, pos};
 ghost use lib.ListN.{length};
 ghost use Rattle.whole.specs.Numbers.{Near};
 ghost use Rattle.sheet.specs.Grammar.{ranged};
 ghost use Rattle.sheet.specs.Reading.{readRange};
 ghost use Rattle.sheet.specs.inner.Steps.{tokensFrom};
+ghost use Rattle.meaning.specs.Grounds.{topOf};
 ghost use Rattle.lines.specs.inner.Emission.{Rules};
 ghost use Rattle.lines.specs.inner.Comparisons.{listingOf};
 ghost use Rattle.lines.specs.inner.Stored.{Standing, Answers, lineBy, treeBy, ruleF, Appended, Roomy, DeclaresIn};
@@ -32,8 +34,15 @@ use whole::Range;
 // The most quantities.
 const MOST: usize = 128;
 
-// The top of the default range.
-const TOP: i64 = 1_000_000;
+// The top of the default range, by the version.
+fn top_of(version: u64) -> i64
+    ensures { λ r. ⌜ r ≡ pos (topOf version) ⌝ }
+{
+    if version == 1 {
+        return 1_000_000;
+    }
+    200_000
+}
 
 // A quantity more: 24 after a rule, 25 where it is declared twice, 26, 29.
 fn declare(
@@ -46,7 +55,7 @@ fn declare(
 ) -> Lined
     requires { ⌜ Near low ⌝ ∗ ⌜ Near high ⌝ }
     requires { ⌜ DeclaresIn done (now ranges) (now keys) ⌝ }
-    ensures { λ r. ⌜ ((ps ns ls : List ℤ) → Answers (treeBy (some (ranged name low high))) done (now (ranges .entry)) ps ns ls (now (keys .entry)) (now (ranges .exit)) ps ns ls (now (keys .exit)) r) ⌝ }
+    ensures { λ r. ⌜ ((version : ℕ) (ps ns ls : List ℤ) → Answers (treeBy version (some (ranged name low high))) done (now (ranges .entry)) ps ns ls (now (keys .entry)) (now (ranges .exit)) ps ns ls (now (keys .exit)) r) ⌝ }
 {
     if done.ruled {
         return Lined::Refused(Refusal::Form);
@@ -75,13 +84,20 @@ fn declare(
 }
 
 // What stands behind `range`.
-fn range_line(line: &[u8], at: usize, done: Progress, ranges: &mut [i64], keys: &mut [u64]) -> Lined
+fn range_line(
+    line: &[u8],
+    at: usize,
+    version: u64,
+    done: Progress,
+    ranges: &mut [i64],
+    keys: &mut [u64],
+) -> Lined
     requires { ⌜ DeclaresIn done (now ranges) (now keys) ⌝ }
-    ensures { λ r. ⌜ ((ps ns ls : List ℤ) → Answers (treeBy (readRange (tokensFrom (now (line .entry)) at))) done (now (ranges .entry)) ps ns ls (now (keys .entry)) (now (ranges .exit)) ps ns ls (now (keys .exit)) r) ⌝ }
+    ensures { λ r. ⌜ ((ps ns ls : List ℤ) → Answers (treeBy version (readRange (tokensFrom (now (line .entry)) at))) done (now (ranges .entry)) ps ns ls (now (keys .entry)) (now (ranges .exit)) ps ns ls (now (keys .exit)) r) ⌝ }
 {
     let said = declaration(line, at);
     match said {
-        Declaration::Plain { name } => declare(name, 0, TOP, done, ranges, keys),
+        Declaration::Plain { name } => declare(name, 0, top_of(version), done, ranges, keys),
         Declaration::Ranged { name, low, high } => declare(name, low, high, done, ranges, keys),
         Declaration::No => Lined::Refused(Refusal::Form),
     }
@@ -160,7 +176,7 @@ fn rule_line(
     keys: &[u64],
 ) -> Lined
     requires { ⌜ Standing done (now ranges) (now primitives) (now lengths) (now literals) (now keys) ⌝ }
-    ensures { λ r. ⌜ ((n : ℕ) → 8 * length (tokensFrom (now (line .entry)) at) + 8 ≤ n → Answers (treeBy (ruleF conditional n (tokensFrom (now (line .entry)) at))) done (now (ranges .entry)) (now (primitives .entry)) (now (lengths .entry)) (now (literals .entry)) (now (keys .entry)) (now (ranges .exit)) (now (primitives .exit)) (now (lengths .exit)) (now (literals .exit)) (now (keys .entry)) r) ⌝ }
+    ensures { λ r. ⌜ ((version n : ℕ) → 8 * length (tokensFrom (now (line .entry)) at) + 8 ≤ n → Answers (treeBy version (ruleF conditional n (tokensFrom (now (line .entry)) at))) done (now (ranges .entry)) (now (primitives .entry)) (now (lengths .entry)) (now (literals .entry)) (now (keys .entry)) (now (ranges .exit)) (now (primitives .exit)) (now (lengths .exit)) (now (literals .exit)) (now (keys .entry)) r) ⌝ }
 {
     let mut seconds = [0i64; 768];
     let declared = done.declared;
@@ -209,6 +225,7 @@ fn rule_line(
 // Inner: one line, read into the lists behind what is there.
 pub fn read_line(
     line: &[u8],
+    version: u64,
     done: Progress,
     ranges: &mut [i64],
     primitives: &mut [i64],
@@ -217,7 +234,7 @@ pub fn read_line(
     keys: &mut [u64],
 ) -> Lined
     requires { ⌜ Standing done (now ranges) (now primitives) (now lengths) (now literals) (now keys) ⌝ }
-    ensures { λ r. ⌜ Answers (lineBy (now (line .entry))) done (now (ranges .entry)) (now (primitives .entry)) (now (lengths .entry)) (now (literals .entry)) (now (keys .entry)) (now (ranges .exit)) (now (primitives .exit)) (now (lengths .exit)) (now (literals .exit)) (now (keys .exit)) r ⌝ }
+    ensures { λ r. ⌜ Answers (lineBy version (now (line .entry))) done (now (ranges .entry)) (now (primitives .entry)) (now (lengths .entry)) (now (literals .entry)) (now (keys .entry)) (now (ranges .exit)) (now (primitives .exit)) (now (lengths .exit)) (now (literals .exit)) (now (keys .exit)) r ⌝ }
 {
     if deep(line) {
         return Lined::Refused(Refusal::Brackets);
@@ -228,7 +245,7 @@ pub fn read_line(
         return Lined::Refused(Refusal::Form);
     };
     match mark {
-        Mark::Range => range_line(line, first.next, done, ranges, keys),
+        Mark::Range => range_line(line, first.next, version, done, ranges, keys),
         Mark::Must => rule_line(
             line,
             first.next,

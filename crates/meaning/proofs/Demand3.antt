@@ -28,7 +28,7 @@ use Rattle.meaning.proofs.LinesSay.{Kept, kept-blank}
 use Rattle.meaning.proofs.LineCarries.{carried}
 use Rattle.meaning.proofs.Faultless.{Faultless, text-read}
 use Rattle.meaning.proofs.LineInduction.{after-one-more, names-declared, by-lines}
-use Rattle.meaning.proofs.LinesFit.{room-read}
+use Rattle.meaning.proofs.LinesFit.{top-near, room-read}
 
 -- how many quantities the problem has
 pub counted : (s : Draft) → quantities (problemIn s .ranges) ≡ quantitiesIn s
@@ -155,7 +155,7 @@ pub demand3 : (t : List ℕ) (s : Draft) → outcomeOf t ≡ read s → (ls : Li
 demand3 t s e =
     let r = text-trees t s e in
     let l = text-read t s e in
-    let d = room-read (topOf (l .version)) (omega arith) 2 _ s (l .lines) .distinct in (
+    let d = room-read (topOf (l .version)) (top-near (l .version)) 2 _ s (l .lines) .distinct in (
       r .0,
       r .1,
       ap (λ (u : Draft). u .names) (r .2 .made) ∙ names-declared (topIn t) blank (r .0),

@@ -26,7 +26,7 @@ use Rattle.meaning.proofs.Pieces.{Within}
 use Rattle.meaning.proofs.Faultless.{text-read}
 use Rattle.meaning.proofs.Demand3.{values}
 use Rattle.meaning.proofs.NamedQuantities.{Known, Good}
-use Rattle.meaning.proofs.LinesFit.{Ordered, NearEnds, room-read}
+use Rattle.meaning.proofs.LinesFit.{Ordered, NearEnds, top-near, room-read}
 use Rattle.meaning.proofs.SolverGrounds.{sound}
 
 -- ---- no range is empty
@@ -67,7 +67,7 @@ pub record Passes (s : Draft) : Type 0 where
 pub fits : (t : List ℕ) (s : Draft) → outcomeOf t ≡ read s → Passes s
 fits t s e =
     let r = text-read t s e in
-    let h = room-read (topOf (r .version)) (omega arith) 2 _ s (r .lines) in
+    let h = room-read (topOf (r .version)) (top-near (r .version)) 2 _ s (r .lines) in
     let v = values t s e (lowest (s .declared)) (lowest-in (s .declared) (h .ordered)) in
     let rs = s .declared ++ s .made .ranges in
     record {

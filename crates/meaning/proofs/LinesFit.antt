@@ -1,9 +1,10 @@
 -- Each line without a fault leaves room: at most 128 quantities, ends within plus or minus M, names that differ, and small lists that name what there is.
 use mathlib.Core.Path.{_≡_, refl, subst}
-use mathlib.Core.Bool.{false, _||_}
+use mathlib.Core.Bool.{Bool, true, false, cond, _||_}
 use mathlib.Core.List.{List, [], _∷_}
 use Prim.Native.Nat.{ℕ, _<_, _≤_}
 use native.Mathlib.Omega.{arith}
+use lib.Dec.{eqb}
 use lib.ListN.{length, length-append}
 use lib.IntN.{ℤ, pos}
 use lib.Signed.{ltZ, _≤ℤ_}
@@ -19,7 +20,7 @@ use Rattle.meaning.specs.Plain.{isIn, asksOf}
 use Rattle.meaning.specs.Translation.{gaps, ruleOf}
 use Rattle.meaning.specs.Lists.{literalsIn}
 use Rattle.meaning.specs.Draft.{Draft, blank, quantitiesIn, declare, rule, after}
-use Rattle.meaning.specs.Grounds.{anyBeyond, read, readLines}
+use Rattle.meaning.specs.Grounds.{topOf, anyBeyond, read, readLines}
 use Rattle.meaning.proofs.Tests.{either-off}
 use Rattle.meaning.proofs.Elements.{all-join, all-map}
 use Rattle.meaning.proofs.NamePlaces.{Distinct, distinct-none, distinct-more}
@@ -128,6 +129,14 @@ room-after top m s t (default n) h e f =
     room-declare s h n (range (pos 0) (pos top)) (f .names) (omega ints) (record { low = omega ints; high = omega ints }, record { low = omega ints; high = omega ints }) (f .few)
 room-after top m s t (must d ds) h e f = room-rule s h (must d ds) (line-named s (must d ds) (f .names)) (omega arith) (f .near) (f .few)
 room-after top m s t (when c cs d ds) h e f = room-rule s h (when c cs d ds) (line-named s (when c cs d ds) (f .names)) (omega arith) (f .near) (f .few)
+
+-- the top of the default range, whatever the version
+pub top-near : (v : ℕ) → topOf v ≤ 1_000_000_000_000
+top-near v = by (eqb v 1)
+  where
+    by : (b : Bool) → cond b 1_000_000 200_000 ≤ 1_000_000_000_000
+    by true = omega arith
+    by false = omega arith
 
 pub room-read : (top : ℕ) → top ≤ 1_000_000_000_000 → (k : ℕ) (ts : List (List ℕ)) (s : Draft) → readLines top k blank ts ≡ read s → Room s
 room-read top m k ts s e = by-lines top (λ ls s. Room s) (λ ls s t l h spelt f. room-after top m s t l h spelt f) ts k blank s [] room-blank e .2

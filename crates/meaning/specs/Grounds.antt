@@ -58,13 +58,13 @@ firstLine (r ∷ (u ∷ [])) = Not
 firstLine (r ∷ (u ∷ (l ∷ []))) = Not
 firstLine (r ∷ (u ∷ (l ∷ (s ∷ ds)))) = cond (eqb r (word "R") && (eqb u (word "U") && (eqb l (word "L") && eqb s (word " ")))) (versionOf ds) Not
 
--- 22: version not 1
+-- 22: a version other than 1 or 2
 abbrev pub otherVersion : ℕ → Bool
-otherVersion v = not (eqb v 1)
+otherVersion v = not (eqb v 1 || eqb v 2)
 
--- the top of the default range, by the version
+-- the top of the default range, by the version: 1,000,000 in version 1, 200,000 from version 2
 abbrev pub topOf : ℕ → ℕ
-topOf version = 1_000_000
+topOf v = cond (eqb v 1) 1_000_000 200_000
 
 -- the version that line 1 gives; 0 where it is malformed
 abbrev pub versionIn : Value → ℕ

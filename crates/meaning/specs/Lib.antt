@@ -6,5 +6,6 @@ pub mod Draft
 pub mod Grounds
 pub mod Refused
 pub mod Demand3
+pub mod Worked
 pub mod Fits
 pub mod Promises

@@ -58,7 +58,7 @@ pub data RefusedAt (t : List ℕ) : ℕ → ℕ → Type 0 where
   text : badText t ≡ true → RefusedAt t 20 0
   -- line 1 malformed
   first : badText t ≡ false → firstLine (lineOf t 1) ≡ Not → RefusedAt t 21 1
-  -- version not 1
+  -- a version other than 1 or 2
   version : {v : ℕ} → badText t ≡ false → firstLine (lineOf t 1) ≡ Is v → otherVersion v ≡ true → RefusedAt t 22 1
   -- after 22, the first line with a fault decides
   atLine :

@@ -14,7 +14,7 @@ use Rattle.sheet.specs.inner.Places.{placeOf}
 use Rattle.sheet.specs.declared.Value.the-variants.{Is, Not}
 use Rattle.sheet.proofs.Lines.{lines-at}
 use Rattle.meaning.specs.Draft.{blank}
-use Rattle.meaning.specs.Grounds.{shortLists, badText, firstLine, topOf, Outcome, refused, readLines, someDeclared, behindFirst, byVersion, outcomeOf}
+use Rattle.meaning.specs.Grounds.{shortLists, badText, firstLine, otherVersion, topOf, Outcome, refused, readLines, someDeclared, behindFirst, byVersion, outcomeOf}
 use Rattle.translate.specs.Translate.{judged, Translates}
 use Rattle.translate.specs.inner.Walk.{Lent, Gives}
 use Rattle.meaning.specs.declared.Refusal.{Refusal}
@@ -69,10 +69,10 @@ module _ (t : List ℕ) where
     pub first-refused : firstLine (take end t) ≡ Not → outcomeOf t ≡ refused refusal.FirstLine 1
     first-refused f = by-first ∙ rw f
 
-    pub version-refused : (v : ℕ) → firstLine (take end t) ≡ Is v → (v ≡ 1 → ⊥) → outcomeOf t ≡ refused refusal.Version 1
-    version-refused v f n = by-first ∙ rw (f, ne-eqb v 1 n)
+    pub version-refused : (v : ℕ) → firstLine (take end t) ≡ Is v → otherVersion v ≡ true → outcomeOf t ≡ refused refusal.Version 1
+    version-refused v f n = by-first ∙ rw (f, n)
 
-    pub lines-decide : (v : ℕ) → firstLine (take end t) ≡ Is v → v ≡ 1 → outcomeOf t ≡ someDeclared (readLines (topOf 1) 2 blank (linesOf (drop (end + 1) t)))
+    pub lines-decide : (v : ℕ) → firstLine (take end t) ≡ Is v → otherVersion v ≡ false → outcomeOf t ≡ someDeclared (readLines (topOf v) 2 blank (linesOf (drop (end + 1) t)))
     lines-decide v f n = by-first ∙ rw (f, n, first-is t end (text-some t e) p .others)
 
 -- ---- the whole

@@ -64,45 +64,45 @@ proper-blank = record { good = tt; primitives = omega arith; clauses = omega ari
 
 -- ---- a step of the walk
 -- what the lines from a place on make of the blank sheet
-abbrev pub outcomeFrom : List ℕ → ℕ → Outcome
-outcomeFrom text from = readLines (topOf 1) 2 blank (linesOf (drop from text))
+abbrev pub outcomeFrom : ℕ → List ℕ → ℕ → Outcome
+outcomeFrom version text from = readLines (topOf version) 2 blank (linesOf (drop from text))
 
-pub record Walking (text : List ℕ) (from : ℕ) (rs ps ns ls : List ℤ) (keys : List ℕ) (g : Progress) (at line : ℕ) : Type 0 where
+pub record Walking (version : ℕ) (text : List ℕ) (from : ℕ) (rs ps ns ls : List ℤ) (keys : List ℕ) (g : Progress) (at line : ℕ) : Type 0 where
   pub standing : Standing g rs ps ns ls keys
-  pub same : outcomeFrom text from ≡ readLines (topOf 1) line (standing .draft) (linesOf (drop at text))
+  pub same : outcomeFrom version text from ≡ readLines (topOf version) line (standing .draft) (linesOf (drop at text))
   pub number : line ≤ at + 2
 
-pub walk-start : (text : List ℕ) (from : ℕ) (rs ps ns ls : List ℤ) (keys : List ℕ) → Full rs ps ns ls keys → Walking text from rs ps ns ls keys unread from 2
-walk-start text from rs ps ns ls keys f =
+pub walk-start : (version : ℕ) (text : List ℕ) (from : ℕ) (rs ps ns ls : List ℤ) (keys : List ℕ) → Full rs ps ns ls keys → Walking version text from rs ps ns ls keys unread from 2
+walk-start version text from rs ps ns ls keys f =
     record { standing = record { draft = blank; stored = stored-blank rs ps ns ls keys; proper = proper-blank; full = f }; same = refl; number = omega arith }
 
-module _ {text : List ℕ} {from : ℕ} {rs ps ns ls : List ℤ} {keys : List ℕ} {g : Progress} {at line : ℕ} (w : Walking text from rs ps ns ls keys g at line) where
-  pub walk-done : length text ≤ at → Holds (outcomeFrom text from) g rs ps ns ls keys
+module _ {version : ℕ} {text : List ℕ} {from : ℕ} {rs ps ns ls : List ℤ} {keys : List ℕ} {g : Progress} {at line : ℕ} (w : Walking version text from rs ps ns ls keys g at line) where
+  pub walk-done : length text ≤ at → Holds (outcomeFrom version text from) g rs ps ns ls keys
   walk-done h =
       let s = w .standing .draft in
       record {
         draft = s;
-        outcome = w .same ∙ ap (readLines (topOf 1) line s) (lines-end text at h) ∙ lines-none (topOf 1) line s;
+        outcome = w .same ∙ ap (readLines (topOf version) line s) (lines-end text at h) ∙ lines-none (topOf version) line s;
         stored = w .standing .stored;
         proper = w .standing .proper;
       }
 
   -- the lines from here on are the line at this place, and those behind it
   module _ (h : at < length text) (end : ℕ) (e : end ≡ placeOf 10 text at) where
-    here : outcomeFrom text from ≡ readLines (topOf 1) line (w .standing .draft) (take (end - at) (drop at text) ∷ linesOf (drop (end + 1) text))
-    here = w .same ∙ rw e (ap (readLines (topOf 1) line (w .standing .draft)) (lines-at text at h))
+    here : outcomeFrom version text from ≡ readLines (topOf version) line (w .standing .draft) (take (end - at) (drop at text) ∷ linesOf (drop (end + 1) text))
+    here = w .same ∙ rw e (ap (readLines (topOf version) line (w .standing .draft)) (lines-at text at h))
 
-    module _ {rs′ ps′ ns′ ls′ : List ℤ} {keys′ : List ℕ} {r : Lined} (read : Answers (lineBy (take (end - at) (drop at text))) g rs ps ns ls keys rs′ ps′ ns′ ls′ keys′ r) where
-      pub walk-fault : (refusal : Refusal) → r ≡ Refused refusal → outcomeFrom text from ≡ refused refusal line
+    module _ {rs′ ps′ ns′ ls′ : List ℤ} {keys′ : List ℕ} {r : Lined} (read : Answers (lineBy version (take (end - at) (drop at text))) g rs ps ns ls keys rs′ ps′ ns′ ls′ keys′ r) where
+      pub walk-fault : (refusal : Refusal) → r ≡ Refused refusal → outcomeFrom version text from ≡ refused refusal line
       walk-fault refusal d =
-          let says : LineSays line (oneLine (topOf 1) (w .standing .draft) line (take (end - at) (drop at text))) rs′ ps′ ns′ ls′ keys′ (Refused refusal) =
+          let says : LineSays line (oneLine (topOf version) (w .standing .draft) line (take (end - at) (drop at text))) rs′ ps′ ns′ ls′ keys′ (Refused refusal) =
           rw d at (read .says (w .standing .draft) line (w .standing .stored) (w .standing .proper)) in
-          here ∙ lines-fault (topOf 1) line (w .standing .draft) (take (end - at) (drop at text)) (linesOf (drop (end + 1) text)) refusal line says
+          here ∙ lines-fault (topOf version) line (w .standing .draft) (take (end - at) (drop at text)) (linesOf (drop (end + 1) text)) refusal line says
 
-      pub walk-next : (next : Progress) → r ≡ Next next → length rs′ ≡ length rs → length ps′ ≡ length ps → length ns′ ≡ length ns → length ls′ ≡ length ls → length keys′ ≡ length keys → Walking text from rs′ ps′ ns′ ls′ keys′ next (end + 1) (line + 1)
+      pub walk-next : (next : Progress) → r ≡ Next next → length rs′ ≡ length rs → length ps′ ≡ length ps → length ns′ ≡ length ns → length ls′ ≡ length ls → length keys′ ≡ length keys → Walking version text from rs′ ps′ ns′ ls′ keys′ next (end + 1) (line + 1)
       walk-next next d er ep en el ek =
           let f = w .standing .full in
-          let says : LineSays line (oneLine (topOf 1) (w .standing .draft) line (take (end - at) (drop at text))) rs′ ps′ ns′ ls′ keys′ (Next next) =
+          let says : LineSays line (oneLine (topOf version) (w .standing .draft) line (take (end - at) (drop at text))) rs′ ps′ ns′ ls′ keys′ (Next next) =
           rw d at (read .says (w .standing .draft) line (w .standing .stored) (w .standing .proper)) in
           record {
             standing = record {
@@ -111,6 +111,6 @@ module _ {text : List ℕ} {from : ℕ} {rs ps ns ls : List ℤ} {keys : List �
               proper = says .proper;
               full = record { ranges = er ∙ f .ranges; primitives = ep ∙ f .primitives; lengths = en ∙ f .lengths; literals = el ∙ f .literals; names = ek ∙ f .names };
             };
-            same = here ∙ rw (add-one line) (lines-next (topOf 1) line (w .standing .draft) (take (end - at) (drop at text)) (linesOf (drop (end + 1) text)) (says .draft) (says .outcome));
+            same = here ∙ rw (add-one line) (lines-next (topOf version) line (w .standing .draft) (take (end - at) (drop at text)) (linesOf (drop (end + 1) text)) (says .draft) (says .outcome));
             number = omega (arith, w .number);
           }

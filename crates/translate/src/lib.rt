@@ -11,6 +11,7 @@ use meaning::Refusal;
 use sheet::Value;
 use text::bad_text;
 use text::first_line;
+use text::other_version;
 
 // How many of each an accepted sheet makes.
 pub struct Counts {
@@ -82,11 +83,20 @@ pub fn translate(
             line: 1,
         };
     };
-    if version != 1 {
+    if other_version(version) {
         return Translated::Refused {
             refusal: Refusal::Version,
             line: 1,
         };
     }
-    walk::fill(sheet, end + 1, ranges, primitives, lengths, literals, names)
+    walk::fill(
+        sheet,
+        end + 1,
+        version,
+        ranges,
+        primitives,
+        lengths,
+        literals,
+        names,
+    )
 }

@@ -1,6 +1,6 @@
-// The text of a sheet as a whole: its bytes (20) and its first line (21).
+// The text of a sheet as a whole: its bytes (20), its first line (21) and its version (22).
 ghost use mathlib.Core.Path.{_≡_};
-ghost use Rattle.meaning.specs.Grounds.{badByte, anyBadByte, badText, versionOf, firstLine};
+ghost use Rattle.meaning.specs.Grounds.{badByte, anyBadByte, badText, versionOf, firstLine, otherVersion};
 use sheet::Value;
 use sheet::piece::digit_at;
 use sheet::piece::number;
@@ -85,4 +85,11 @@ pub fn first_line(line: &[u8]) -> Value
         return Value::Not;
     }
     version(&line[4..])
+}
+
+// Whether a version is other than 1 or 2: 22.
+pub fn other_version(version: u64) -> bool
+    ensures { λ r. ⌜ r ≡ otherVersion version ⌝ }
+{
+    version != 1 && version != 2
 }

@@ -25,6 +25,7 @@ pub enum Walked {
 fn read_lines(
     text: &[u8],
     from: usize,
+    version: u64,
     ranges: &mut [i64],
     primitives: &mut [i64],
     lengths: &mut [i64],
@@ -32,7 +33,7 @@ fn read_lines(
     keys: &mut [u64],
 ) -> Walked
     requires { ⌜ Full (now ranges) (now primitives) (now lengths) (now literals) (now keys) ⌝ }
-    ensures { λ r. ⌜ LinesRead (readLines (topOf 1) 2 blank (linesOf (drop from (now (text .entry))))) (now (ranges .exit)) (now (primitives .exit)) (now (lengths .exit)) (now (literals .exit)) (now (keys .exit)) r ⌝ }
+    ensures { λ r. ⌜ LinesRead (readLines (topOf version) 2 blank (linesOf (drop from (now (text .entry))))) (now (ranges .exit)) (now (primitives .exit)) (now (lengths .exit)) (now (literals .exit)) (now (keys .exit)) r ⌝ }
 {
     let mut done = Progress {
         declared: 0,
@@ -48,6 +49,7 @@ fn read_lines(
         let end = line_end(text, at);
         let lined = read_line(
             &text[at..end],
+            version,
             done,
             ranges,
             primitives,
@@ -111,6 +113,7 @@ fn accept(
 pub fn fill(
     text: &[u8],
     from: usize,
+    version: u64,
     ranges: &mut [i64],
     primitives: &mut [i64],
     lengths: &mut [i64],
@@ -118,14 +121,23 @@ pub fn fill(
     names: &mut [u8],
 ) -> Translated
     requires { ⌜ Lent (now ranges) (now primitives) (now lengths) (now literals) (now names) ⌝ }
-    ensures { λ r. ⌜ Gives (someDeclared (readLines (topOf 1) 2 blank (linesOf (drop from (now (text .entry)))))) (now (ranges .entry)) (now (primitives .entry)) (now (lengths .entry)) (now (literals .entry)) (now (names .entry)) (now (ranges .exit)) (now (primitives .exit)) (now (lengths .exit)) (now (literals .exit)) (now (names .exit)) r ⌝ }
+    ensures { λ r. ⌜ Gives (someDeclared (readLines (topOf version) 2 blank (linesOf (drop from (now (text .entry)))))) (now (ranges .entry)) (now (primitives .entry)) (now (lengths .entry)) (now (literals .entry)) (now (names .entry)) (now (ranges .exit)) (now (primitives .exit)) (now (lengths .exit)) (now (literals .exit)) (now (names .exit)) r ⌝ }
 {
     let mut rs = [0i64; 256];
     let mut ps = [0i64; 1024];
     let mut ns = [0i64; 256];
     let mut ls = [0i64; 3072];
     let mut keys = [0u64; 128];
-    let walked = read_lines(text, from, &mut rs, &mut ps, &mut ns, &mut ls, &mut keys);
+    let walked = read_lines(
+        text,
+        from,
+        version,
+        &mut rs,
+        &mut ps,
+        &mut ns,
+        &mut ls,
+        &mut keys,
+    );
     match walked {
         Walked::Refused { refusal, line } => Translated::Refused { refusal, line },
         Walked::Read(done) => {

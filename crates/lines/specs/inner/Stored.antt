@@ -81,13 +81,13 @@ pub record Answers
     : Type 0 where
   pub says : (s : Draft) (k : ℕ) → Stored s g rs₀ ps₀ ns₀ ls₀ keys₀ → Proper s → LineSays k (f s k) rs ps ns ls keys r
 
--- the outcome of a line
-abbrev pub lineBy : List ℕ → Draft → ℕ → Outcome
-lineBy line s k = oneLine (topOf 1) s k line
+-- the outcome of a line in a sheet of some version
+abbrev pub lineBy : ℕ → List ℕ → Draft → ℕ → Outcome
+lineBy version line s k = oneLine (topOf version) s k line
 
 -- of a tree, where there is one
-abbrev pub treeBy : Option Line → Draft → ℕ → Outcome
-treeBy o s k = lineOutcome (topOf 1) s k o
+abbrev pub treeBy : ℕ → Option Line → Draft → ℕ → Outcome
+treeBy version o s k = lineOutcome (topOf version) s k o
 
 -- the tokens behind `if`, or behind `must`, as a rule
 abbrev pub ruleF : Bool → ℕ → List Token → Option Line

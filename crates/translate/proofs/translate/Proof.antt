@@ -40,16 +40,19 @@ returns-3 c =
     refused-text _ _ _ _ _ _ (sym (c .before .before .before .before .before .before .before .before .short .ensures) ∙ c .before .before .before .before .before .before .before .if1 .left) _ _
     (first-refused _ (sym (c .before .before .before .before .before .before .bad-text .ensures) ∙ c .before .before .before .before .before .if2 .left) _ (c .before .before .before .before .line-end .ensures) (sym (c .before .before .first-line .ensures) ∙ c .enum-told .given .1))
 
+other-version-requires : tie.Need-other-version-requires
+other-version-requires c κs = search needs
+
 returns-4 : tie.Need-returns-4
 returns-4 c =
-    refused-text _ _ _ _ _ _ (sym (c .before .before .before .before .before .before .before .before .before .before .short .ensures) ∙ c .before .before .before .before .before .before .before .before .before .if1 .left) _ _
-    (version-refused _ (sym (c .before .before .before .before .before .before .before .before .bad-text .ensures) ∙ c .before .before .before .before .before .before .before .if2 .left) _ (c .before .before .before .before .before .before .line-end .ensures) _ (sym (c .before .before .before .before .first-line .ensures) ∙ c .before .before .version .given .1) (c .if3 .taken))
+    refused-text _ _ _ _ _ _ (sym (c .before .before .before .before .before .before .before .before .before .before .before .short .ensures) ∙ c .before .before .before .before .before .before .before .before .before .before .if1 .left) _ _
+    (version-refused _ (sym (c .before .before .before .before .before .before .before .before .before .bad-text .ensures) ∙ c .before .before .before .before .before .before .before .before .if2 .left) _ (c .before .before .before .before .before .before .before .line-end .ensures) _ (sym (c .before .before .before .before .before .first-line .ensures) ∙ c .before .before .before .version .given .1) (sym (c .before .other-version .ensures) ∙ c .if3 .taken))
 
 add-fill : tie.Need-add-fill
-add-fill c = omega (arith, c .before .before .before .before .before .before .line-end .ensures, place-fits 10 (c .before .before .before .before .before .before .before .before .before .before .before .before .before .args .sheet .now) 0 (omega arith))
+add-fill c = omega (arith, c .before .before .before .before .before .before .before .line-end .ensures, place-fits 10 (c .before .before .before .before .before .before .before .before .before .before .before .before .before .before .args .sheet .now) 0 (omega arith))
 
 fill-requires : tie.Need-fill-requires
-fill-requires c κs = lists-long _ _ _ _ _ (sym (c .before .before .before .before .before .before .before .before .before .before .before .before .before .before .before .short .ensures) ∙ c .before .before .before .before .before .before .before .before .before .before .before .before .before .before .if1 .left)
+fill-requires c κs = lists-long _ _ _ _ _ (sym (c .before .before .before .before .before .before .before .before .before .before .before .before .before .before .before .before .short .ensures) ∙ c .before .before .before .before .before .before .before .before .before .before .before .before .before .before .before .if1 .left)
 
 same-length : tie.Need-same-length
 same-length c = search needs
@@ -68,8 +71,8 @@ same-length-5 c = search needs
 
 returns-5 : tie.Need-returns-5
 returns-5 c =
-    translated-text _ _ _ _ _ _ (sym (c .before .before .before .before .before .before .before .before .before .before .before .before .before .before .before .before .before .before .before .before .before .before .short .ensures) ∙ c .before .before .before .before .before .before .before .before .before .before .before .before .before .before .before .before .before .before .before .before .before .if1 .left) _
-    (lines-decide _ (sym (c .before .before .before .before .before .before .before .before .before .before .before .before .before .before .before .before .before .before .before .before .bad-text .ensures) ∙ c .before .before .before .before .before .before .before .before .before .before .before .before .before .before .before .before .before .before .before .if2 .left) _ (c .before .before .before .before .before .before .before .before .before .before .before .before .before .before .before .before .before .before .line-end .ensures) _ (sym (c .before .before .before .before .before .before .before .before .before .before .before .before .before .before .before .before .first-line .ensures) ∙ c .before .before .before .before .before .before .before .before .before .before .before .before .before .before .version .given .1) (c .before .before .before .before .before .before .before .before .before .before .before .before .if3 .left)) _ _ _ _ _ _ (c .before .before .before .before .before .before .fill .ensures)
+    translated-text _ _ _ _ _ _ (sym (c .before .before .before .before .before .before .before .before .before .before .before .before .before .before .before .before .before .before .before .before .before .before .before .short .ensures) ∙ c .before .before .before .before .before .before .before .before .before .before .before .before .before .before .before .before .before .before .before .before .before .before .if1 .left) _
+    (lines-decide _ (sym (c .before .before .before .before .before .before .before .before .before .before .before .before .before .before .before .before .before .before .before .before .before .bad-text .ensures) ∙ c .before .before .before .before .before .before .before .before .before .before .before .before .before .before .before .before .before .before .before .before .if2 .left) _ (c .before .before .before .before .before .before .before .before .before .before .before .before .before .before .before .before .before .before .before .line-end .ensures) _ (sym (c .before .before .before .before .before .before .before .before .before .before .before .before .before .before .before .before .before .first-line .ensures) ∙ c .before .before .before .before .before .before .before .before .before .before .before .before .before .before .before .version .given .1) (sym (c .before .before .before .before .before .before .before .before .before .before .before .before .before .other-version .ensures) ∙ c .before .before .before .before .before .before .before .before .before .before .before .before .if3 .left)) _ _ _ _ _ _ (c .before .before .before .before .before .before .fill .ensures)
 
 pub translate-spec : {M : Type 1} → statement M
 translate-spec =
@@ -85,6 +88,7 @@ translate-spec =
     enum-known-version
     enum-told
     returns-3
+    other-version-requires
     returns-4
     add-fill
     fill-requires

@@ -8,7 +8,7 @@ use Rattle.lines.proofs.line.declare.Statement.{statement}
 use Rattle.lines.proofs.line.declare.Tie as tie
 
 returns : tie.Need-returns
-returns c ps ns ls = declare-late _ _ _ _ _ _ _ _ _ _ _ (c .if1 .taken)
+returns c version ps ns ls = declare-late version _ _ _ _ _ _ _ _ _ _ _ (c .if1 .taken)
 
 slice-reshare-prefix-place-of : tie.Need-slice-reshare-prefix-place-of
 slice-reshare-prefix-place-of c = search needs
@@ -23,19 +23,19 @@ same-length : tie.Need-same-length
 same-length c = search needs
 
 returns-2 : tie.Need-returns-2
-returns-2 c ps ns ls = declare-twice _ _ _ _ _ _ _ _ _ _ _ (c .before .before .before .if1 .left) (rw (c .before .place-of .ensures) at (c .if2 .taken))
+returns-2 c version ps ns ls = declare-twice version _ _ _ _ _ _ _ _ _ _ _ (c .before .before .before .if1 .left) (rw (c .before .place-of .ensures) at (c .if2 .taken))
 
 same-length-2 : tie.Need-same-length-2
 same-length-2 c = search needs
 
 returns-3 : tie.Need-returns-3
-returns-3 c ps ns ls = declare-order _ _ _ _ _ _ _ _ _ _ _ (c .before .before .before .before .if1 .left) (rw (c .before .before .place-of .ensures) at (c .before .if2 .left)) (order-told (c .before .before .before .before .before .before .pre .0) (c .before .before .before .before .before .before .pre .1 .0) (c .if3 .taken))
+returns-3 c version ps ns ls = declare-order version _ _ _ _ _ _ _ _ _ _ _ (c .before .before .before .before .if1 .left) (rw (c .before .before .place-of .ensures) at (c .before .if2 .left)) (order-told (c .before .before .before .before .before .before .pre .0) (c .before .before .before .before .before .before .pre .1 .0) (c .if3 .taken))
 
 same-length-3 : tie.Need-same-length-3
 same-length-3 c = search needs
 
 returns-4 : tie.Need-returns-4
-returns-4 c ps ns ls = declare-many _ _ _ _ _ _ _ _ _ _ _ (c .before .before .before .before .before .if1 .left) (rw (c .before .before .before .place-of .ensures) at (c .before .before .if2 .left)) (order-told (c .before .before .before .before .before .before .before .pre .0) (c .before .before .before .before .before .before .before .pre .1 .0) (c .before .if3 .left)) (c .if4 .taken)
+returns-4 c version ps ns ls = declare-many version _ _ _ _ _ _ _ _ _ _ _ (c .before .before .before .before .before .if1 .left) (rw (c .before .before .before .place-of .ensures) at (c .before .before .if2 .left)) (order-told (c .before .before .before .before .before .before .before .pre .0) (c .before .before .before .before .before .before .before .pre .1 .0) (c .before .if3 .left)) (c .if4 .taken)
 
 put-range-requires : tie.Need-put-range-requires
 put-range-requires c κs = search needs
@@ -59,7 +59,7 @@ same-length-5 : tie.Need-same-length-5
 same-length-5 c = search needs
 
 returns-5 : tie.Need-returns-5
-returns-5 c ps ns ls = declare-next _ _ _ _ _ _ _ _ _ _ _ (c .before .before .before .before .before .before .before .before .if1 .left) (rw (c .before .before .before .before .before .before .place-of .ensures) at (c .before .before .before .before .before .if2 .left)) (order-told (c .before .before .before .before .before .before .before .before .before .before .pre .0) (c .before .before .before .before .before .before .before .before .before .before .pre .1 .0) (c .before .before .before .before .if3 .left)) (c .before .before .before .before .before .before .before .before .before .before .pre .0) (c .before .before .before .before .before .before .before .before .before .before .pre .1 .0) (c .before .before .before .before .before .before .before .before .before .before .pre .1 .1) (c .before .before .before .if4 .left) (c .before .put-range .ensures) refl
+returns-5 c version ps ns ls = declare-next version _ _ _ _ _ _ _ _ _ _ _ (c .before .before .before .before .before .before .before .before .if1 .left) (rw (c .before .before .before .before .before .before .place-of .ensures) at (c .before .before .before .before .before .if2 .left)) (order-told (c .before .before .before .before .before .before .before .before .before .before .pre .0) (c .before .before .before .before .before .before .before .before .before .before .pre .1 .0) (c .before .before .before .before .if3 .left)) (c .before .before .before .before .before .before .before .before .before .before .pre .0) (c .before .before .before .before .before .before .before .before .before .before .pre .1 .0) (c .before .before .before .before .before .before .before .before .before .before .pre .1 .1) (c .before .before .before .if4 .left) (c .before .put-range .ensures) refl
 
 pub declare-spec : {M : Type 1} → statement M
 declare-spec =

@@ -12,7 +12,7 @@ deep-requires c κs = search needs
 returns : tie.Need-returns
 returns c =
     let s = c .before .before .before .before in
-    line-deep (s .args .line .now) (s .args .done) (s .args .ranges .now) (s .args .primitives .now) (s .args .lengths .now) (s .args .literals .now) (s .args .keys .now) _ _ _ _ _ (sym (c .before .deep .ensures) ∙ c .if1 .taken)
+    line-deep (s .args .version) (s .args .line .now) (s .args .done) (s .args .ranges .now) (s .args .primitives .now) (s .args .lengths .now) (s .args .literals .now) (s .args .keys .now) _ _ _ _ _ (sym (c .before .deep .ensures) ∙ c .if1 .taken)
 
 next-requires : tie.Need-next-requires
 next-requires c κs = search needs
@@ -24,7 +24,7 @@ returns-2 : tie.Need-returns-2
 returns-2 c =
     let s = c .before .before .before .before .before .before in
     let n = c .before .next in
-    line-other (s .args .line .now) (s .args .done) (s .args .ranges .now) (s .args .primitives .now) (s .args .lengths .now) (s .args .literals .now) (s .args .keys .now) _ _ _ _ _
+    line-other (s .args .version) (s .args .line .now) (s .args .done) (s .args .ranges .now) (s .args .primitives .now) (s .args .lengths .now) (s .args .literals .now) (s .args .keys .now) _ _ _ _ _
     (sym (c .before .before .before .deep .ensures) ∙ c .before .before .if1 .left) (n .result .token) (n .result .next) (n .ensures .0, n .ensures .1)
     (not-fixed (n .result .token) (c .match .keys2))
 
@@ -56,7 +56,7 @@ returns-3 : tie.Need-returns-3
 returns-3 c =
     let s = c .before .before .before .before .before .before .before .before .before .before .before .before .before .before .before .before in
     let n = c .before .before .before .before .before .before .before .before .before .before .before .next in
-    line-range (s .args .line .now) (s .args .done) (s .args .ranges .now) (s .args .primitives .now) (s .args .lengths .now) (s .args .literals .now) (s .args .keys .now) _ _ _ _ _
+    line-range (s .args .version) (s .args .line .now) (s .args .done) (s .args .ranges .now) (s .args .primitives .now) (s .args .lengths .now) (s .args .literals .now) (s .args .keys .now) _ _ _ _ _
     (sym (c .before .before .before .before .before .before .before .before .before .before .before .before .before .deep .ensures) ∙ c .before .before .before .before .before .before .before .before .before .before .before .before .if1 .left) (n .result .token) (n .result .next) (n .ensures .0, n .ensures .1)
     (c .before .before .before .range-line .result) (c .before .before .before .before .before .before .before .before .before .token .given .1 ∙ ap Fixed (c .before .before .before .before .before .before .enum-told .given .1)) (c .before .before .before .range-line .ensures (s .args .primitives .now) (s .args .lengths .now) (s .args .literals .now))
 
@@ -79,9 +79,9 @@ returns-4 : tie.Need-returns-4
 returns-4 c =
     let s = c .before .before .before .before .before .before .before .before .before .before .before .before .before .before .before .before .before .before .before .before in
     let n = c .before .before .before .before .before .before .before .before .before .before .before .before .before .before .before .next in
-    line-must (s .args .line .now) (s .args .done) (s .args .ranges .now) (s .args .primitives .now) (s .args .lengths .now) (s .args .literals .now) (s .args .keys .now) _ _ _ _ _
+    line-must (s .args .version) (s .args .line .now) (s .args .done) (s .args .ranges .now) (s .args .primitives .now) (s .args .lengths .now) (s .args .literals .now) (s .args .keys .now) _ _ _ _ _
     (sym (c .before .before .before .before .before .before .before .before .before .before .before .before .before .before .before .before .before .deep .ensures) ∙ c .before .before .before .before .before .before .before .before .before .before .before .before .before .before .before .before .if1 .left) (n .result .token) (n .result .next) (n .ensures .0, n .ensures .1)
-    (c .before .before .before .before .rule-line .result) (c .before .before .before .before .before .before .before .before .before .before .before .before .before .token .given .1 ∙ ap Fixed (c .before .before .before .before .before .before .before .before .before .before .enum-told2 .given .1)) (c .before .before .before .before .rule-line .ensures)
+    (c .before .before .before .before .rule-line .result) (c .before .before .before .before .before .before .before .before .before .before .before .before .before .token .given .1 ∙ ap Fixed (c .before .before .before .before .before .before .before .before .before .before .enum-told2 .given .1)) (c .before .before .before .before .rule-line .ensures (s .args .version))
 
 same-length-8 : tie.Need-same-length-8
 same-length-8 c = search needs
@@ -102,15 +102,15 @@ returns-5 : tie.Need-returns-5
 returns-5 c =
     let s = c .before .before .before .before .before .before .before .before .before .before .before .before .before .before .before .before .before .before .before .before in
     let n = c .before .before .before .before .before .before .before .before .before .before .before .before .before .before .before .next in
-    line-if (s .args .line .now) (s .args .done) (s .args .ranges .now) (s .args .primitives .now) (s .args .lengths .now) (s .args .literals .now) (s .args .keys .now) _ _ _ _ _
+    line-if (s .args .version) (s .args .line .now) (s .args .done) (s .args .ranges .now) (s .args .primitives .now) (s .args .lengths .now) (s .args .literals .now) (s .args .keys .now) _ _ _ _ _
     (sym (c .before .before .before .before .before .before .before .before .before .before .before .before .before .before .before .before .before .deep .ensures) ∙ c .before .before .before .before .before .before .before .before .before .before .before .before .before .before .before .before .if1 .left) (n .result .token) (n .result .next) (n .ensures .0, n .ensures .1)
-    (c .before .before .before .before .rule-line2 .result) (c .before .before .before .before .before .before .before .before .before .before .before .before .before .token .given .1 ∙ ap Fixed (c .before .before .before .before .before .before .before .before .before .before .enum-told3 .given .1)) (c .before .before .before .before .rule-line2 .ensures)
+    (c .before .before .before .before .rule-line2 .result) (c .before .before .before .before .before .before .before .before .before .before .before .before .before .token .given .1 ∙ ap Fixed (c .before .before .before .before .before .before .before .before .before .before .enum-told3 .given .1)) (c .before .before .before .before .rule-line2 .ensures (s .args .version))
 
 returns-6 : tie.Need-returns-6
 returns-6 c =
     let s = c .before .before .before .before .before .before .before .before .before in
     let n = c .before .before .before .before .next in
-    line-other (s .args .line .now) (s .args .done) (s .args .ranges .now) (s .args .primitives .now) (s .args .lengths .now) (s .args .literals .now) (s .args .keys .now) _ _ _ _ _
+    line-other (s .args .version) (s .args .line .now) (s .args .done) (s .args .ranges .now) (s .args .primitives .now) (s .args .lengths .now) (s .args .literals .now) (s .args .keys .now) _ _ _ _ _
     (sym (c .before .before .before .before .before .before .deep .ensures) ∙ c .before .before .before .before .before .if1 .left) (n .result .token) (n .result .next) (n .ensures .0, n .ensures .1)
     (rw (c .before .before .token .given .1) (other-mark (c .before .before .token .given .0 .0) (c .match2 .keys4)))
 

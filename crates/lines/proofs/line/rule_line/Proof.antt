@@ -54,9 +54,9 @@ same-length-3 : tie.Need-same-length-3
 same-length-3 c = search needs
 
 returns : tie.Need-returns
-returns c =
+returns c version =
     let s = c .before .before .before .before .before .before .before .before .before .before .before .before .before .before .before in
-    rule-unread (s .args .conditional) (tokensFrom (s .args .line .now) (s .args .at)) (s .args .done) (s .args .ranges .now) (s .args .primitives .now) (s .args .lengths .now) (s .args .literals .now) (s .args .keys .now) _ _ _ _ _ _ _ _ _ _ (rw (c .enum-told .given .1) at (c .before .before .before .before .before .before .read-part .ensures))
+    rule-unread version (s .args .conditional) (tokensFrom (s .args .line .now) (s .args .at)) (s .args .done) (s .args .ranges .now) (s .args .primitives .now) (s .args .lengths .now) (s .args .literals .now) (s .args .keys .now) _ _ _ _ _ _ _ _ _ _ (rw (c .enum-told .given .1) at (c .before .before .before .before .before .before .read-part .ensures))
 
 same-length-4 : tie.Need-same-length-4
 same-length-4 c = search needs
@@ -68,9 +68,9 @@ same-length-6 : tie.Need-same-length-6
 same-length-6 c = search needs
 
 returns-2 : tie.Need-returns-2
-returns-2 c = λ n l.
+returns-2 c = λ version n l.
     let s = c .before .before .before .before .before .before .before .before .before .before .before .before .before .before .before .before .before in
-    rule-names (s .args .conditional) (tokensFrom (s .args .line .now) (s .args .at)) (s .args .done) (s .args .ranges .now) (s .args .primitives .now) (s .args .lengths .now) (s .args .literals .now) (s .args .keys .now) _ (s .pre .full) refl (c .before .before .ruled .given .0 .0) (c .before .before .ruled .given .0 .1 .0) (c .before .before .ruled .given .0 .1 .1 .0) _ _ _ _ (rw (c .before .before .ruled .given .1) at (c .before .before .before .before .before .before .before .before .read-part .ensures)) n l _ _ _ _ _ (c .if1 .taken)
+    rule-names version (s .args .conditional) (tokensFrom (s .args .line .now) (s .args .at)) (s .args .done) (s .args .ranges .now) (s .args .primitives .now) (s .args .lengths .now) (s .args .literals .now) (s .args .keys .now) _ (s .pre .full) refl (c .before .before .ruled .given .0 .0) (c .before .before .ruled .given .0 .1 .0) (c .before .before .ruled .given .0 .1 .1 .0) _ _ _ _ (rw (c .before .before .ruled .given .1) at (c .before .before .before .before .before .before .before .before .read-part .ensures)) n l _ _ _ _ _ (c .if1 .taken)
 
 same-length-7 : tie.Need-same-length-7
 same-length-7 c = search needs
@@ -82,9 +82,9 @@ same-length-9 : tie.Need-same-length-9
 same-length-9 c = search needs
 
 returns-3 : tie.Need-returns-3
-returns-3 c = λ n l.
+returns-3 c = λ version n l.
     let s = c .before .before .before .before .before .before .before .before .before .before .before .before .before .before .before .before .before .before in
-    rule-equalities (s .args .conditional) (tokensFrom (s .args .line .now) (s .args .at)) (s .args .done) (s .args .ranges .now) (s .args .primitives .now) (s .args .lengths .now) (s .args .literals .now) (s .args .keys .now) _ (s .pre .full) refl (c .before .before .before .ruled .given .0 .0) (c .before .before .before .ruled .given .0 .1 .0) (c .before .before .before .ruled .given .0 .1 .1 .0) _ _ _ _ (rw (c .before .before .before .ruled .given .1) at (c .before .before .before .before .before .before .before .before .before .read-part .ensures)) n l (c .before .if1 .left) _ _ _ _ _ (c .if2 .taken)
+    rule-equalities version (s .args .conditional) (tokensFrom (s .args .line .now) (s .args .at)) (s .args .done) (s .args .ranges .now) (s .args .primitives .now) (s .args .lengths .now) (s .args .literals .now) (s .args .keys .now) _ (s .pre .full) refl (c .before .before .before .ruled .given .0 .0) (c .before .before .before .ruled .given .0 .1 .0) (c .before .before .before .ruled .given .0 .1 .1 .0) _ _ _ _ (rw (c .before .before .before .ruled .given .1) at (c .before .before .before .before .before .before .before .before .before .read-part .ensures)) n l (c .before .if1 .left) _ _ _ _ _ (c .if2 .taken)
 
 same-length-10 : tie.Need-same-length-10
 same-length-10 c = search needs
@@ -96,9 +96,9 @@ same-length-12 : tie.Need-same-length-12
 same-length-12 c = search needs
 
 returns-4 : tie.Need-returns-4
-returns-4 c = λ n l.
+returns-4 c = λ version n l.
     let s = c .before .before .before .before .before .before .before .before .before .before .before .before .before .before .before .before .before .before .before in
-    rule-beyond (s .args .conditional) (tokensFrom (s .args .line .now) (s .args .at)) (s .args .done) (s .args .ranges .now) (s .args .primitives .now) (s .args .lengths .now) (s .args .literals .now) (s .args .keys .now) _ (s .pre .full) refl (c .before .before .before .before .ruled .given .0 .0) (c .before .before .before .before .ruled .given .0 .1 .0) (c .before .before .before .before .ruled .given .0 .1 .1 .0) _ _ _ _ (rw (c .before .before .before .before .ruled .given .1) at (c .before .before .before .before .before .before .before .before .before .before .read-part .ensures)) n l (c .before .before .if1 .left) (c .before .if2 .left) _ _ _ _ _ (c .if3 .taken)
+    rule-beyond version (s .args .conditional) (tokensFrom (s .args .line .now) (s .args .at)) (s .args .done) (s .args .ranges .now) (s .args .primitives .now) (s .args .lengths .now) (s .args .literals .now) (s .args .keys .now) _ (s .pre .full) refl (c .before .before .before .before .ruled .given .0 .0) (c .before .before .before .before .ruled .given .0 .1 .0) (c .before .before .before .before .ruled .given .0 .1 .1 .0) _ _ _ _ (rw (c .before .before .before .before .ruled .given .1) at (c .before .before .before .before .before .before .before .before .before .before .read-part .ensures)) n l (c .before .before .if1 .left) (c .before .if2 .left) _ _ _ _ _ (c .if3 .taken)
 
 same-length-13 : tie.Need-same-length-13
 same-length-13 c = search needs
@@ -110,9 +110,9 @@ same-length-15 : tie.Need-same-length-15
 same-length-15 c = search needs
 
 returns-5 : tie.Need-returns-5
-returns-5 c = λ n l.
+returns-5 c = λ version n l.
     let s = c .before .before .before .before .before .before .before .before .before .before .before .before .before .before .before .before .before .before .before .before .before in
-    rule-many (s .args .conditional) (tokensFrom (s .args .line .now) (s .args .at)) (s .args .done) (s .args .ranges .now) (s .args .primitives .now) (s .args .lengths .now) (s .args .literals .now) (s .args .keys .now) _ (s .pre .full) refl (c .before .before .before .before .before .before .ruled .given .0 .0) (c .before .before .before .before .before .before .ruled .given .0 .1 .0) (c .before .before .before .before .before .before .ruled .given .0 .1 .1 .0) _ _ _ _ (rw (c .before .before .before .before .before .before .ruled .given .1) at (c .before .before .before .before .before .before .before .before .before .before .before .before .read-part .ensures)) n l (c .before .before .before .before .if1 .left) (c .before .before .before .if2 .left) (c .before .before .if3 .left) _ _ _ _ _ (c .if4 .taken)
+    rule-many version (s .args .conditional) (tokensFrom (s .args .line .now) (s .args .at)) (s .args .done) (s .args .ranges .now) (s .args .primitives .now) (s .args .lengths .now) (s .args .literals .now) (s .args .keys .now) _ (s .pre .full) refl (c .before .before .before .before .before .before .ruled .given .0 .0) (c .before .before .before .before .before .before .ruled .given .0 .1 .0) (c .before .before .before .before .before .before .ruled .given .0 .1 .1 .0) _ _ _ _ (rw (c .before .before .before .before .before .before .ruled .given .1) at (c .before .before .before .before .before .before .before .before .before .before .before .before .read-part .ensures)) n l (c .before .before .before .before .if1 .left) (c .before .before .before .if2 .left) (c .before .before .if3 .left) _ _ _ _ _ (c .if4 .taken)
 
 slice-aggregate-append : tie.Need-slice-aggregate-append
 slice-aggregate-append c = search needs
@@ -122,7 +122,7 @@ append-requires c κs =
     let s = c .before .before .before .before .before .before .before .before .before .before .before .before .before .before .before .before .before .before .before .before .before .before .before .before in
     let n = 8 * length (tokensFrom (s .args .line .now) (s .args .at)) + 8 in
     let l : n ≤ n = le-refl n in
-    rule-room (s .args .conditional) (tokensFrom (s .args .line .now) (s .args .at)) (s .args .done) (s .args .ranges .now) (s .args .primitives .now) (s .args .lengths .now) (s .args .literals .now) (s .args .keys .now) _ (s .pre .full) refl (c .before .before .before .before .before .before .before .before .before .ruled .given .0 .0) (c .before .before .before .before .before .before .before .before .before .ruled .given .0 .1 .0) (c .before .before .before .before .before .before .before .before .before .ruled .given .0 .1 .1 .0) _ _ _ _ (rw (c .before .before .before .before .before .before .before .before .before .ruled .given .1) at (c .before .before .before .before .before .before .before .before .before .before .before .before .before .before .before .read-part .ensures)) n l (c .before .before .before .before .before .before .before .if1 .left) (c .before .before .before .before .before .before .if2 .left) (c .before .before .before .before .before .if3 .left) (c .before .before .before .if4 .left) (c .before .before .before .before .before .before .before .before .before .before .before .before .before .before .before .read-part .kept .1 .1 .1 .1 .1 .1 .1 .0) (s .pre .draft) (s .pre .stored) (s .pre .proper) (c .before .before .before .before .before .before .before .before .before .before .before .before .before .before .before .read-part .kept .1 .1 .1 .1 .1 .1 .1 .1 .0)
+    rule-room 1 (s .args .conditional) (tokensFrom (s .args .line .now) (s .args .at)) (s .args .done) (s .args .ranges .now) (s .args .primitives .now) (s .args .lengths .now) (s .args .literals .now) (s .args .keys .now) _ (s .pre .full) refl (c .before .before .before .before .before .before .before .before .before .ruled .given .0 .0) (c .before .before .before .before .before .before .before .before .before .ruled .given .0 .1 .0) (c .before .before .before .before .before .before .before .before .before .ruled .given .0 .1 .1 .0) _ _ _ _ (rw (c .before .before .before .before .before .before .before .before .before .ruled .given .1) at (c .before .before .before .before .before .before .before .before .before .before .before .before .before .before .before .read-part .ensures)) n l (c .before .before .before .before .before .before .before .if1 .left) (c .before .before .before .before .before .before .if2 .left) (c .before .before .before .before .before .if3 .left) (c .before .before .before .if4 .left) (c .before .before .before .before .before .before .before .before .before .before .before .before .before .before .before .read-part .kept .1 .1 .1 .1 .1 .1 .1 .0) (s .pre .draft) (s .pre .stored) (s .pre .proper) (c .before .before .before .before .before .before .before .before .before .before .before .before .before .before .before .read-part .kept .1 .1 .1 .1 .1 .1 .1 .1 .0)
 
 same-length-16 : tie.Need-same-length-16
 same-length-16 c = search needs
@@ -137,9 +137,9 @@ same-length-19 : tie.Need-same-length-19
 same-length-19 c = search needs
 
 returns-6 : tie.Need-returns-6
-returns-6 c = λ n l.
+returns-6 c = λ version n l.
     let s = c .before .before .before .before .before .before .before .before .before .before .before .before .before .before .before .before .before .before .before .before .before .before .before .before .before .before .before in
-    rule-next (s .args .conditional) (tokensFrom (s .args .line .now) (s .args .at)) (s .args .done) (s .args .ranges .now) (s .args .primitives .now) (s .args .lengths .now) (s .args .literals .now) (s .args .keys .now) _ (s .pre .full) refl (c .before .before .before .before .before .before .before .before .before .before .before .before .ruled .given .0 .0) (c .before .before .before .before .before .before .before .before .before .before .before .before .ruled .given .0 .1 .0) (c .before .before .before .before .before .before .before .before .before .before .before .before .ruled .given .0 .1 .1 .0) _ _ _ _ (rw (c .before .before .before .before .before .before .before .before .before .before .before .before .ruled .given .1) at (c .before .before .before .before .before .before .before .before .before .before .before .before .before .before .before .before .before .before .read-part .ensures)) n l (c .before .before .before .before .before .before .before .before .before .before .if1 .left) (c .before .before .before .before .before .before .before .before .before .if2 .left) (c .before .before .before .before .before .before .before .before .if3 .left) (c .before .before .before .before .before .before .if4 .left) (c .before .before .before .before .before .before .before .before .before .before .before .before .before .before .before .before .before .before .read-part .kept .1 .1 .1 .1 .1 .1 .1 .0) _ _ (c .before .before .append .result) (c .before .before .append .ensures)
+    rule-next version (s .args .conditional) (tokensFrom (s .args .line .now) (s .args .at)) (s .args .done) (s .args .ranges .now) (s .args .primitives .now) (s .args .lengths .now) (s .args .literals .now) (s .args .keys .now) _ (s .pre .full) refl (c .before .before .before .before .before .before .before .before .before .before .before .before .ruled .given .0 .0) (c .before .before .before .before .before .before .before .before .before .before .before .before .ruled .given .0 .1 .0) (c .before .before .before .before .before .before .before .before .before .before .before .before .ruled .given .0 .1 .1 .0) _ _ _ _ (rw (c .before .before .before .before .before .before .before .before .before .before .before .before .ruled .given .1) at (c .before .before .before .before .before .before .before .before .before .before .before .before .before .before .before .before .before .before .read-part .ensures)) n l (c .before .before .before .before .before .before .before .before .before .before .if1 .left) (c .before .before .before .before .before .before .before .before .before .if2 .left) (c .before .before .before .before .before .before .before .before .if3 .left) (c .before .before .before .before .before .before .if4 .left) (c .before .before .before .before .before .before .before .before .before .before .before .before .before .before .before .before .before .before .read-part .kept .1 .1 .1 .1 .1 .1 .1 .0) _ _ (c .before .before .append .result) (c .before .before .append .ensures)
 
 pub rule-line-spec : {M : Type 1} → statement M
 rule-line-spec =

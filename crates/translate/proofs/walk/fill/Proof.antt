@@ -50,7 +50,7 @@ accept-requires : tie.Need-accept-requires
 accept-requires c κs =
     let k = c .before .before .before .before .before .before .before .before .before .before .before .before .before .before .before .before .before .before .before .before .read-lines .kept in (
       walk-standing (c .before .before .before .before .before .before .before .before .before .before .before .before .before .before .before .before .before .before .before .before .read-lines .ensures) _ (c .before .before .before .before .before .before .before .before .before .before .before .before .before .walked2 .given .1)
-          (record { ranges = k .1 .1 .0; primitives = k .1 .1 .1 .0; lengths = k .1 .1 .1 .1 .0; literals = k .1 .1 .1 .1 .1 .0; names = k .1 .1 .1 .1 .1 .1 .0 }),
+          (record { ranges = k .1 .1 .1 .0; primitives = k .1 .1 .1 .1 .0; lengths = k .1 .1 .1 .1 .1 .0; literals = k .1 .1 .1 .1 .1 .1 .0; names = k .1 .1 .1 .1 .1 .1 .1 .0 }),
       c .before .before .before .before .before .before .before .before .before .before .before .before .before .before .before .before .before .before .before .before .before .before .before .before .before .before .before .before .pre,
     )
 

@@ -10,15 +10,15 @@ use Rattle.translate.proofs.walk.read_lines.Statement.{statement}
 use Rattle.translate.proofs.walk.read_lines.Tie as tie
 
 abbrev Inv-loop : tie.InvT-loop
-Inv-loop text from ranges₀ primitives₀ lengths₀ literals₀ keys₀ done₀ at₀ line₀ ranges primitives lengths literals keys done at line =
-    Walking text from ranges primitives lengths literals keys done at line
+Inv-loop text from version ranges₀ primitives₀ lengths₀ literals₀ keys₀ done₀ at₀ line₀ ranges primitives lengths literals keys done at line =
+    Walking version text from ranges primitives lengths literals keys done at line
 
 abbrev μ-loop : tie.MeasureT-loop
-μ-loop text from ranges₀ primitives₀ lengths₀ literals₀ keys₀ done₀ at₀ line₀ ranges primitives lengths literals keys done at line =
+μ-loop text from version ranges₀ primitives₀ lengths₀ literals₀ keys₀ done₀ at₀ line₀ ranges primitives lengths literals keys done at line =
     length text + 1 - at
 
 loop-holds : tie.Need-loop-holds Inv-loop μ-loop
-loop-holds c = walk-start (c .before .before .args .text .now) (c .before .before .args .from) _ _ _ _ _ (c .before .before .pre)
+loop-holds c = walk-start (c .before .before .args .version) (c .before .before .args .text .now) (c .before .before .args .from) _ _ _ _ _ (c .before .before .pre)
 
 line-end-requires : tie.Need-line-end-requires Inv-loop μ-loop
 line-end-requires c κs = tt
@@ -42,19 +42,19 @@ enum-known-lined-2 : tie.Need-enum-known-lined-2 Inv-loop μ-loop
 enum-known-lined-2 c = search needs
 
 same-length : tie.Need-same-length Inv-loop μ-loop
-same-length c = c .before .before .before .before .before .before .before .before .before .read-line .kept .1 .1 .0 ∙ c .before .before .before .before .before .before .before .before .before .before .before .before .before .before .before .before .before .before .loop .inv .standing .full .ranges ∙ sym (c .before .before .before .before .before .before .before .before .before .before .before .before .before .before .before .before .before .before .before .before .before .pre .ranges)
+same-length c = c .before .before .before .before .before .before .before .before .before .read-line .kept .1 .1 .1 .0 ∙ c .before .before .before .before .before .before .before .before .before .before .before .before .before .before .before .before .before .before .loop .inv .standing .full .ranges ∙ sym (c .before .before .before .before .before .before .before .before .before .before .before .before .before .before .before .before .before .before .before .before .before .pre .ranges)
 
 same-length-2 : tie.Need-same-length-2 Inv-loop μ-loop
-same-length-2 c = c .before .before .before .before .before .before .before .before .before .read-line .kept .1 .1 .1 .0 ∙ c .before .before .before .before .before .before .before .before .before .before .before .before .before .before .before .before .before .before .loop .inv .standing .full .primitives ∙ sym (c .before .before .before .before .before .before .before .before .before .before .before .before .before .before .before .before .before .before .before .before .before .pre .primitives)
+same-length-2 c = c .before .before .before .before .before .before .before .before .before .read-line .kept .1 .1 .1 .1 .0 ∙ c .before .before .before .before .before .before .before .before .before .before .before .before .before .before .before .before .before .before .loop .inv .standing .full .primitives ∙ sym (c .before .before .before .before .before .before .before .before .before .before .before .before .before .before .before .before .before .before .before .before .before .pre .primitives)
 
 same-length-3 : tie.Need-same-length-3 Inv-loop μ-loop
-same-length-3 c = c .before .before .before .before .before .before .before .before .before .read-line .kept .1 .1 .1 .1 .0 ∙ c .before .before .before .before .before .before .before .before .before .before .before .before .before .before .before .before .before .before .loop .inv .standing .full .lengths ∙ sym (c .before .before .before .before .before .before .before .before .before .before .before .before .before .before .before .before .before .before .before .before .before .pre .lengths)
+same-length-3 c = c .before .before .before .before .before .before .before .before .before .read-line .kept .1 .1 .1 .1 .1 .0 ∙ c .before .before .before .before .before .before .before .before .before .before .before .before .before .before .before .before .before .before .loop .inv .standing .full .lengths ∙ sym (c .before .before .before .before .before .before .before .before .before .before .before .before .before .before .before .before .before .before .before .before .before .pre .lengths)
 
 same-length-4 : tie.Need-same-length-4 Inv-loop μ-loop
-same-length-4 c = c .before .before .before .before .before .before .before .before .before .read-line .kept .1 .1 .1 .1 .1 .0 ∙ c .before .before .before .before .before .before .before .before .before .before .before .before .before .before .before .before .before .before .loop .inv .standing .full .literals ∙ sym (c .before .before .before .before .before .before .before .before .before .before .before .before .before .before .before .before .before .before .before .before .before .pre .literals)
+same-length-4 c = c .before .before .before .before .before .before .before .before .before .read-line .kept .1 .1 .1 .1 .1 .1 .0 ∙ c .before .before .before .before .before .before .before .before .before .before .before .before .before .before .before .before .before .before .loop .inv .standing .full .literals ∙ sym (c .before .before .before .before .before .before .before .before .before .before .before .before .before .before .before .before .before .before .before .before .before .pre .literals)
 
 same-length-5 : tie.Need-same-length-5 Inv-loop μ-loop
-same-length-5 c = c .before .before .before .before .before .before .before .before .before .read-line .kept .1 .1 .1 .1 .1 .1 .0 ∙ c .before .before .before .before .before .before .before .before .before .before .before .before .before .before .before .before .before .before .loop .inv .standing .full .names ∙ sym (c .before .before .before .before .before .before .before .before .before .before .before .before .before .before .before .before .before .before .before .before .before .pre .names)
+same-length-5 c = c .before .before .before .before .before .before .before .before .before .read-line .kept .1 .1 .1 .1 .1 .1 .1 .0 ∙ c .before .before .before .before .before .before .before .before .before .before .before .before .before .before .before .before .before .before .loop .inv .standing .full .names ∙ sym (c .before .before .before .before .before .before .before .before .before .before .before .before .before .before .before .before .before .before .before .before .before .pre .names)
 
 returns : tie.Need-returns Inv-loop μ-loop
 returns c = record { says = walk-fault (c .before .before .before .before .before .before .before .before .before .before .before .before .before .before .before .before .before .before .loop .inv) (c .before .before .before .before .before .before .before .before .before .before .before .before .before .before .before .before .before .loop-test .taken) _ (c .before .before .before .before .before .before .before .before .before .before .before .before .before .before .before .before .line-end .ensures) (c .before .before .before .before .before .before .before .before .before .read-line .ensures) _ (c .before .lined2 .given .1) }
@@ -69,7 +69,7 @@ loop-less : tie.Need-loop-less Inv-loop μ-loop
 loop-less c = omega (arith, c .before .before .before .before .before .before .before .before .before .before .before .before .before .before .before .before .line-end .ensures, c .before .before .before .before .before .before .before .before .before .before .before .before .before .before .before .before .before .loop-test .taken)
 
 loop-again : tie.Need-loop-again Inv-loop μ-loop
-loop-again c = walk-next (c .before .before .before .before .before .before .before .before .before .before .before .before .before .before .before .before .before .before .loop .inv) (c .before .before .before .before .before .before .before .before .before .before .before .before .before .before .before .before .before .loop-test .taken) _ (c .before .before .before .before .before .before .before .before .before .before .before .before .before .before .before .before .line-end .ensures) (c .before .before .before .before .before .before .before .before .before .read-line .ensures) _ (c .before .lined .given .1) (c .before .before .before .before .before .before .before .before .before .read-line .kept .1 .1 .0) (c .before .before .before .before .before .before .before .before .before .read-line .kept .1 .1 .1 .0) (c .before .before .before .before .before .before .before .before .before .read-line .kept .1 .1 .1 .1 .0) (c .before .before .before .before .before .before .before .before .before .read-line .kept .1 .1 .1 .1 .1 .0) (c .before .before .before .before .before .before .before .before .before .read-line .kept .1 .1 .1 .1 .1 .1 .0)
+loop-again c = walk-next (c .before .before .before .before .before .before .before .before .before .before .before .before .before .before .before .before .before .before .loop .inv) (c .before .before .before .before .before .before .before .before .before .before .before .before .before .before .before .before .before .loop-test .taken) _ (c .before .before .before .before .before .before .before .before .before .before .before .before .before .before .before .before .line-end .ensures) (c .before .before .before .before .before .before .before .before .before .read-line .ensures) _ (c .before .lined .given .1) (c .before .before .before .before .before .before .before .before .before .read-line .kept .1 .1 .1 .0) (c .before .before .before .before .before .before .before .before .before .read-line .kept .1 .1 .1 .1 .0) (c .before .before .before .before .before .before .before .before .before .read-line .kept .1 .1 .1 .1 .1 .0) (c .before .before .before .before .before .before .before .before .before .read-line .kept .1 .1 .1 .1 .1 .1 .0) (c .before .before .before .before .before .before .before .before .before .read-line .kept .1 .1 .1 .1 .1 .1 .1 .0)
 
 same-length-6 : tie.Need-same-length-6 Inv-loop μ-loop
 same-length-6 c = c .before .loop .inv .standing .full .ranges ∙ sym (c .before .before .before .before .pre .ranges)
