@@ -22,6 +22,7 @@ pub fn all() -> Vec<Case> {
     solve_limits(&mut list);
     buffer_rules(&mut list);
     text_limits(&mut list);
+    versions(&mut list);
     line_limits(&mut list);
     lent_list_limits(&mut list);
     line_calls(&mut list);
@@ -39,13 +40,23 @@ impl List {
 
     /// The desk's whole output for a sheet without its mark.
     fn desk(&mut self, body: &str, output: &str) {
-        let passed = answer(format!("RUL 1\n{body}\n").as_bytes()) == output.as_bytes();
-        self.add(format!("desk: {}", shortened(body)), passed);
+        self.desk_of(1, body, output);
+    }
+
+    /// The same for a sheet of a version.
+    fn desk_of(&mut self, version: u16, body: &str, output: &str) {
+        let passed = answer(format!("RUL {version}\n{body}\n").as_bytes()) == output.as_bytes();
+        self.add(format!("desk: {version} {}", shortened(body)), passed);
     }
 
     /// What translating a sheet without its mark comes to.
     fn verdict(&mut self, body: &str, wanted: Verdict) {
-        self.whole(&format!("RUL 1\n{body}\n"), wanted);
+        self.verdict_of(1, body, wanted);
+    }
+
+    /// The same for a sheet of a version.
+    fn verdict_of(&mut self, version: u16, body: &str, wanted: Verdict) {
+        self.whole(&format!("RUL {version}\n{body}\n"), wanted);
     }
 
     /// What translating a whole text comes to.
@@ -380,7 +391,10 @@ fn text_limits(list: &mut List) {
         "RUL 00\n",
         "RUL +1\n",
         "RUL 1K\n",
+        "RUL 02\n",
+        "RUL 2K\n",
         "RUL 65536\n",
+        "RUL 65538\n",
         "RUL 18446744073709551617\n",
         "RUL -1\n",
         "RUL1\n",
@@ -388,12 +402,42 @@ fn text_limits(list: &mut List) {
     ] {
         list.whole(bad, Not(21, 1));
     }
-    for other in ["RUL 0\n", "RUL 2\nx\n", "RUL 65535\n", "RUL 10\n"] {
+    for other in
+        ["RUL 0\n", "RUL 3\nx\n", "RUL 65535\n", "RUL 10\n", "RUL 12\n", "RUL 20\n", "RUL 21\n"]
+    {
         list.whole(other, Not(22, 1));
     }
+    list.whole("RUL 3\nrange a\u{7f}\n", Not(20, 0));
     list.whole("RUL 1\n", Not(30, 0));
+    list.whole("RUL 2\n", Not(30, 0));
     list.whole("RUL 1\n\n", Not(24, 2));
     list.whole("RUL 1\nrange a\n\n", Not(24, 3));
+}
+
+/// The default range of each version. [0, high] is halved k times, where
+/// 2^k is the least power above high: 2^20 and 2^18.
+fn versions(list: &mut List) {
+    for (version, top, halvings) in [(1, 1_000_000, 20), (2, 200_000, 18)] {
+        list.desk_of(version, "range a", &format!("FOUND {}\na 0\n", 1 + halvings));
+        // Each halving of a moves the difference too.
+        let body = "range a\nmust a <= 931G";
+        list.desk_of(version, body, &format!("FOUND {}\na 0\n", 1 + 2 * halvings));
+        list.desk_of(version, &format!("range a\nmust a >= {top}"), &format!("FOUND 3\na {top}\n"));
+        list.desk_of(version, &format!("range a\nmust a > {top}"), "NONE 1\n");
+        // a times this many is exactly M, or one step more.
+        let most = M / top;
+        list.verdict_of(version, &format!("range a\nmust a * {most} >= 0"), Fine);
+        list.verdict_of(version, &format!("range a\nmust a * {} >= 0", most + 1), Not(28, 3));
+        list.verdict_of(version, &format!("range a {top} {top}\nrange b\nrange b"), Not(25, 4));
+        list.verdict_of(version, "range a 4294967296 4G\nrange b 4G 4294967296", Fine);
+        list.verdict_of(version, "range a 0 932G", Not(24, 2));
+    }
+    let three = "range w\nrange h\nrange s 1 4\nmust w * h * s <= 5";
+    list.verdict_of(1, three, Not(28, 5));
+    list.verdict_of(2, three, Fine);
+    list.verdict_of(1, "range a\nrange b\nmust a * b + 1 <= 5", Not(28, 4));
+    list.verdict_of(2, "range a\nrange b\nmust a * b + 1 <= 5", Fine);
+    list.verdict_of(2, "range a\nmust a * a * a <= 5", Not(28, 3));
 }
 
 /// A sound sheet of 4,095 bytes and those of `high`. Brackets fill it up, as

@@ -13,7 +13,7 @@ pub fn fault(text: &[u8]) -> Option<(u8, usize)> {
     let mut lines = text.lines();
     match lines.next().and_then(version) {
         None => return Some((21, 1)),
-        Some(1) => {}
+        Some(1 | 2) => {}
         Some(_) => return Some((22, 1)),
     }
     let mut rules = 0;

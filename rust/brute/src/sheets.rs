@@ -3,7 +3,7 @@
 
 use crate::problems::notable;
 use crate::random::Random;
-use crate::tree::{line_text, Comparison, Expr, Line, Rule};
+use crate::tree::{line_text, Comparison, Expr, Line, Rule, Sheet};
 use crate::M;
 
 const OPS: [&str; 6] = ["<=", "<", ">=", ">", "=", "!="];
@@ -19,8 +19,17 @@ struct Stuff {
     depth: usize,
 }
 
+/// The version of a sheet: 1 or 2, and now and then one next to them.
+pub fn version(random: &mut Random) -> u16 {
+    if random.once_in(20) {
+        return *random.pick(&[0, 3]);
+    }
+    *random.pick(&[1, 2])
+}
+
 /// A sheet with few values, to be tried assignment by assignment.
-pub fn small(random: &mut Random) -> Vec<Line> {
+pub fn small(random: &mut Random) -> Sheet {
+    let version = version(random);
     let count = 1 + random.below(3);
     let widest = [40, 12, 6][count - 1];
     let names = some_names(random, count);
@@ -28,17 +37,20 @@ pub fn small(random: &mut Random) -> Vec<Line> {
     for name in &names {
         let low = random.between(-6, 6);
         let high = low + random.between(0, widest - 1);
-        lines.push(range_line(random, name, low, high));
+        // The many values of a default range take their time.
+        let is_default = random.once_in(200);
+        lines.push(range_line(random, name, low, high, is_default));
     }
     let stuff = Stuff { names, numbers: |random| random.between(0, 12), depth: 3 };
     for _ in 0..random.below(5) {
         lines.push(Line::Rule(rule(random, &stuff, true)));
     }
-    lines
+    Sheet { version, lines }
 }
 
 /// A sheet that often has one or more faults, each of them foreseeable.
-pub fn faulty(random: &mut Random) -> Vec<Line> {
+pub fn faulty(random: &mut Random) -> Sheet {
+    let version = version(random);
     let mut lines = Vec::new();
     let count = random.below(4);
     let mut names = some_names(random, count);
@@ -53,11 +65,12 @@ pub fn faulty(random: &mut Random) -> Vec<Line> {
         let (a, b) = if is_short { (a % 1_000, b % 1_000) } else { (a, b) };
         let slip = random.once_in(150);
         let (low, high) = if slip { (a.max(b), a.min(b)) } else { (a.min(b), a.max(b)) };
-        lines.push(range_line(random, name, low, high));
+        let is_default = random.once_in(5);
+        lines.push(range_line(random, name, low, high, is_default));
     }
     if random.once_in(10) {
         let name = random.pick(&NAMES).to_string();
-        lines.push(range_line(random, &name, 0, 1));
+        lines.push(range_line(random, &name, 0, 1, false));
     }
     let numbers = if random.once_in(3) {
         |r: &mut Random| sized(r).abs()
@@ -77,17 +90,13 @@ pub fn faulty(random: &mut Random) -> Vec<Line> {
         insert(random, &mut lines, deep);
     }
     if random.once_in(12) {
-        insert(
-            random,
-            &mut lines,
-            Line::Range { name: "late".into(), low: 0, high: 1_000_000, tail: "".into() },
-        );
+        insert(random, &mut lines, Line::Default("late".into()));
     }
     if random.once_in(3) && !lines.is_empty() {
         let place = random.below(lines.len());
         lines[place] = Line::Malformed(malformed(random, &line_text(&lines[place])));
     }
-    lines
+    Sheet { version, lines }
 }
 
 fn insert(random: &mut Random, lines: &mut Vec<Line>, line: Line) {
@@ -106,10 +115,10 @@ fn some_names(random: &mut Random, count: usize) -> Vec<String> {
     (0..count).map(|i| NAMES[(start + i) % NAMES.len()].to_string()).collect()
 }
 
-fn range_line(random: &mut Random, name: &str, low: i64, high: i64) -> Line {
+fn range_line(random: &mut Random, name: &str, low: i64, high: i64, is_default: bool) -> Line {
     let name = name.to_string();
-    if random.once_in(200) {
-        return Line::Range { name, low: 0, high: 1_000_000, tail: String::new() };
+    if is_default {
+        return Line::Default(name);
     }
     let tail = format!(" {} {}", spelled(random, low), spelled(random, high));
     Line::Range { name, low, high, tail }
@@ -258,7 +267,7 @@ pub fn damaged(random: &mut Random, text: &str) -> Vec<u8> {
 }
 
 fn damage(random: &mut Random, bytes: &mut Vec<u8>) {
-    const SPLICES: [&str; 24] = [
+    const SPLICES: [&str; 25] = [
         " ",
         "\n",
         "(",
@@ -283,6 +292,7 @@ fn damage(random: &mut Random, bytes: &mut Vec<u8>) {
         "\t",
         "\r\n",
         "RUL 1\n",
+        "RUL 2\n",
     ];
     let place = random.below(bytes.len() + 1);
     match random.below(6) {

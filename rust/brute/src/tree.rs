@@ -28,26 +28,36 @@ pub struct Rule {
 }
 
 pub enum Line {
-    /// A range line; `tail` is what stands behind the name.
+    /// A range line with ends; `tail` is what stands behind the name.
     Range {
         name: String,
         low: i64,
         high: i64,
         tail: String,
     },
+    /// A range line that has a name and no ends.
+    Default(String),
     Rule(Rule),
     /// A line that is surely malformed.
     Malformed(String),
 }
 
+/// A sheet: the version on line 1, and the lines behind it.
+pub struct Sheet {
+    pub version: u16,
+    pub lines: Vec<Line>,
+}
+
 /// The text of a sheet, mark included.
-pub fn text(lines: &[Line]) -> String {
-    lines.iter().fold("RUL 1\n".to_string(), |sheet, line| sheet + &line_text(line) + "\n")
+pub fn text(sheet: &Sheet) -> String {
+    let mark = format!("RUL {}\n", sheet.version);
+    sheet.lines.iter().fold(mark, |text, line| text + &line_text(line) + "\n")
 }
 
 pub fn line_text(line: &Line) -> String {
     match line {
         Line::Range { name, tail, .. } => format!("range {name}{tail}"),
+        Line::Default(name) => format!("range {name}"),
         Line::Malformed(text) => text.clone(),
         Line::Rule(rule) => {
             let demands = joined(&rule.demands, " or ");
@@ -88,8 +98,8 @@ fn expr_text(expr: &Expr, rank: u8) -> String {
 }
 
 /// Whether values of the declared names meet every rule.
-pub fn obeys(lines: &[Line], value: &dyn Fn(&str) -> i64) -> bool {
-    lines.iter().all(|line| match line {
+pub fn obeys(sheet: &Sheet, value: &dyn Fn(&str) -> i64) -> bool {
+    sheet.lines.iter().all(|line| match line {
         Line::Rule(rule) => {
             rule.conditions.iter().any(|c| !holds(c, value))
                 || rule.demands.iter().any(|c| holds(c, value))
@@ -133,9 +143,12 @@ pub struct Lists {
 }
 
 /// The lists, or the number and line of the refusal.
-pub fn predict(lines: &[Line]) -> Result<Lists, (u8, usize)> {
-    let mut walk = Walk::default();
-    for (line, number) in lines.iter().zip(2..) {
+pub fn predict(sheet: &Sheet) -> Result<Lists, (u8, usize)> {
+    if ![1, 2].contains(&sheet.version) {
+        return Err((22, 1));
+    }
+    let mut walk = Walk { version: sheet.version, ..Walk::default() };
+    for (line, number) in sheet.lines.iter().zip(2..) {
         walk.line(line);
         if let Some(&lowest) = walk.faults.iter().min() {
             return Err((lowest, number));
@@ -150,6 +163,7 @@ pub fn predict(lines: &[Line]) -> Result<Lists, (u8, usize)> {
 /// Goes through the lines and gathers lists and faults.
 #[derive(Default)]
 struct Walk {
+    version: u16,
     lists: Lists,
     faults: Vec<u8>,
     rules: usize,
@@ -163,6 +177,9 @@ impl Walk {
         match line {
             Line::Malformed(_) => self.faults.push(24),
             Line::Range { name, low, high, .. } => self.range(name, *low, *high),
+            // Version 1 keeps the old top.
+            Line::Default(name) if self.version == 1 => self.range(name, 0, 1_000_000),
+            Line::Default(name) => self.range(name, 0, 200_000),
             Line::Rule(rule) => self.rule(rule),
         }
         if self.lists.ranges.len() / 2 > 128 {

@@ -19,7 +19,7 @@ pub struct Group {
     pub check: fn(&mut Random) -> Result<Kind, String>,
 }
 
-pub const GROUPS: [Group; 17] = [
+pub const GROUPS: [Group; 18] = [
     Group { name: "small problems", cases: 100_000, check: small_problem },
     Group { name: "extreme numbers", cases: 100_000, check: extreme_problem },
     Group { name: "damaged problems", cases: 100_000, check: damaged_problem },
@@ -37,6 +37,7 @@ pub const GROUPS: [Group; 17] = [
     Group { name: "any bytes", cases: 50_000, check: any_bytes },
     Group { name: "lists of any size", cases: 20_000, check: list_sizes },
     Group { name: "lines of texts", cases: 100_000, check: line_of_text },
+    Group { name: "default ranges", cases: 50_000, check: default_ranges },
 ];
 
 fn small_problem(random: &mut Random) -> Result<Kind, String> {
@@ -135,6 +136,11 @@ fn first_line(random: &mut Random) -> Result<Kind, String> {
     sheet_agrees(random, text.as_bytes())
 }
 
+fn default_ranges(random: &mut Random) -> Result<Kind, String> {
+    let text = texts::default_ranges(random);
+    sheet_agrees(random, text.as_bytes())
+}
+
 fn spelled_numbers(random: &mut Random) -> Result<Kind, String> {
     let text = texts::spelled_numbers(random);
     sheet_agrees(random, text.as_bytes())
@@ -146,7 +152,8 @@ fn long_sheet(random: &mut Random) -> Result<Kind, String> {
 }
 
 fn full_sheet(random: &mut Random) -> Result<Kind, String> {
-    let text = texts::of_length(4_093 + random.below(8));
+    let length = 4_093 + random.below(8);
+    let text = texts::of_length(random, length);
     sheet_agrees(random, text.as_bytes())
 }
 

@@ -35,26 +35,55 @@ fn with_a_token_changed(random: &mut Random, line: &str) -> String {
     tokens.join(" ")
 }
 
+/// The first line of a sheet, of one version or the other.
+fn mark(random: &mut Random) -> String {
+    random.pick::<&str>(&["RUL 1\n", "RUL 2\n"]).to_string()
+}
+
 /// A sheet whose first line is put together from likely pieces.
 pub fn first_line(random: &mut Random) -> String {
-    const PIECES: [&str; 16] = [
-        "RUL", "RUL ", "RUL 1", " ", "1", "0", "2", "9", "65535", "65536", "6553", "K", "-", "rul",
-        "(", "00000",
+    const PIECES: [&str; 18] = [
+        "RUL", "RUL ", "RUL 1", "RUL 2", " ", "1", "0", "2", "3", "9", "65535", "65536", "6553",
+        "K", "-", "rul", "(", "00000",
     ];
-    let mut text = match random.below(4) {
+    const BODIES: [&str; 5] =
+        ["\n", "\nrange a 0 9\n", "\nrange a 0 9\nmust a > 3\n", "\nrange a\n", ""];
+    let mut text = match random.below(5) {
         0 => String::new(),
         1 => "RUL 1".to_string(),
+        2 => "RUL 2".to_string(),
         _ => "RUL ".to_string(),
     };
     for _ in 0..random.below(4) {
         text += random.pick::<&str>(&PIECES);
     }
-    text + random.pick::<&str>(&["\n", "\nrange a 0 9\n", "\nrange a 0 9\nmust a > 3\n", ""])
+    text + random.pick::<&str>(&BODIES)
+}
+
+/// Default ranges, multiplied: on either side of plus or minus M, by version.
+pub fn default_ranges(random: &mut Random) -> String {
+    const NAMES: [&str; 4] = ["a", "b", "c", "d"];
+    let names = &NAMES[..1 + random.below(4)];
+    let mut text = mark(random);
+    for name in names {
+        text += &match random.below(3) {
+            0 => format!("range {name} 0 {}\n", random.between(1, 9)),
+            _ => format!("range {name}\n"),
+        };
+    }
+    for _ in 0..random.below(3) {
+        let factors: Vec<&str> =
+            (0..1 + random.below(3)).map(|_| *random.pick::<&str>(names)).collect();
+        let most = random.pick(&[5, 199_999, 200_000, 200_001, 999_999, 1_000_000, 1_000_001]);
+        let op = random.pick::<&str>(&["<=", "<", ">=", ">"]);
+        text += &format!("must {} {op} {most}\n", factors.join(" * "));
+    }
+    text
 }
 
 /// Range lines and a rule with numbers near what may be written.
 pub fn spelled_numbers(random: &mut Random) -> String {
-    let mut text = "RUL 1\n".to_string();
+    let mut text = mark(random);
     for name in ["a", "b"] {
         if random.once_in(3) {
             text += &format!("range {name} 0 1\n");
@@ -102,7 +131,7 @@ fn spelled(random: &mut Random, signed: bool) -> String {
 /// A sheet with many declarations and rules, up to and past every limit.
 pub fn long(random: &mut Random) -> String {
     let names: Vec<String> = (0..1 + random.below(70)).map(name).collect();
-    let mut text = "RUL 1\n".to_string();
+    let mut text = mark(random);
     for name in &names {
         text += &format!("range {name} {} {}\n", random.between(-9, 3), random.between(4, 40));
     }
@@ -164,10 +193,10 @@ fn expression(random: &mut Random, names: &[String], depth: usize) -> String {
 
 /// A sheet of exactly so many bytes, at least 200. Brackets fill it up, as
 /// they cost four bytes a pair and make no helper.
-pub fn of_length(length: usize) -> String {
+pub fn of_length(random: &mut Random, length: usize) -> String {
     const DEEPEST: usize = 15;
     let nested = |pairs: usize| format!("{}a{}", "( ".repeat(pairs), " )".repeat(pairs));
-    let mut text = "RUL 1\nrange a 0 ".to_string();
+    let mut text = mark(random) + "range a 0 ";
     // The digits of the range make up what is no multiple of four.
     let plain = text.len() + "\n".len();
     let digits = 1 + (length - plain - 1) % 4;
@@ -189,7 +218,7 @@ pub fn any_bytes(random: &mut Random) -> Vec<u8> {
         _ => random.below(40),
     };
     let is_any = random.once_in(3);
-    let mut text = if random.once_in(2) { b"RUL 1\n".to_vec() } else { Vec::new() };
+    let mut text = if random.once_in(2) { mark(random).into_bytes() } else { Vec::new() };
     text.extend((0..length).map(|_| {
         if is_any {
             random.bits() as u8

@@ -1,15 +1,17 @@
 //! The form of a line, without any look at what its names mean.
 
+use crate::frame::Ends;
 use crate::token::{signed_number, token, Name, Relation, Token};
 
 /// A line that is none of the forms: refusal 24.
 #[derive(Clone, Copy, Debug, PartialEq, Eq)]
 pub struct Malformed;
 
-/// A well-formed line.
+/// A well-formed line. A range line without ends means the default range,
+/// which is the version's.
 #[derive(Debug, PartialEq, Eq)]
 pub enum Line {
-    Range { name: Name, low: i64, high: i64 },
+    Range { name: Name, ends: Option<Ends> },
     Rule(Vec<Node>),
 }
 
@@ -37,9 +39,6 @@ pub enum Node {
     Compare(Part, Relation, NodeId, NodeId),
 }
 
-const DEFAULT_LOW: i64 = 0;
-const DEFAULT_HIGH: i64 = 1_000_000;
-
 /// Reads one line. The caller has made sure that at most 16 brackets are
 /// open at any piece, so the calls of `atom` to `expression` don't run deep.
 pub fn line(text: &[u8]) -> Result<Line, Malformed> {
@@ -57,12 +56,12 @@ fn range_line<'a>(mut pieces: impl Iterator<Item = &'a [u8]>) -> Result<Line, Ma
     let Some(Token::Name(name)) = pieces.next().map(token) else {
         return Err(Malformed);
     };
-    let (low, high) = match (pieces.next(), pieces.next(), pieces.next()) {
-        (None, _, _) => (DEFAULT_LOW, DEFAULT_HIGH),
-        (Some(low), Some(high), None) => (signed(low)?, signed(high)?),
+    let ends = match (pieces.next(), pieces.next(), pieces.next()) {
+        (None, _, _) => None,
+        (Some(low), Some(high), None) => Some((signed(low)?, signed(high)?)),
         _ => return Err(Malformed),
     };
-    Ok(Line::Range { name, low, high })
+    Ok(Line::Range { name, ends })
 }
 
 fn signed(piece: &[u8]) -> Result<i64, Malformed> {

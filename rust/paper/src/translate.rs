@@ -79,10 +79,8 @@ fn read_sheet(sheet: &[u8]) -> Result<Draft, Fault> {
     let body = text_body(sheet).ok_or((20, 0))?;
     let mut lines = body.split(|&byte| byte == b'\n');
     let version = lines.next().and_then(version).ok_or((21, 1))?;
-    if version != 1 {
-        return Err((22, 1));
-    }
-    let mut draft = Draft::default();
+    let default = default_range(version).ok_or((22, 1))?;
+    let mut draft = Draft::new(default);
     for (line, number) in lines.zip(2..) {
         draft.line(line).map_err(|refusal| (refusal, number))?;
     }
@@ -105,9 +103,18 @@ fn version(line: &[u8]) -> Option<i64> {
     plain_digits(line.strip_prefix(b"RUL ")?, HIGHEST_VERSION)
 }
 
+/// What `range NAME` means in a version, if there is such a version.
+fn default_range(version: i64) -> Option<Ends> {
+    match version {
+        1 => Some((0, 1_000_000)),
+        2 => Some((0, 200_000)),
+        _ => None,
+    }
+}
+
 /// The problem as far as the lines read so far make it.
-#[derive(Default)]
 struct Draft {
+    default: Ends,
     ranges: Vec<i64>,
     primitives: Vec<i64>,
     lengths: Vec<i64>,
@@ -117,6 +124,19 @@ struct Draft {
 }
 
 impl Draft {
+    /// No line is read yet.
+    fn new(default: Ends) -> Draft {
+        Draft {
+            default,
+            ranges: Vec::new(),
+            primitives: Vec::new(),
+            lengths: Vec::new(),
+            literals: Vec::new(),
+            names: Vec::new(),
+            rules_begun: false,
+        }
+    }
+
     fn counts(&self) -> Counts {
         Counts {
             quantities: self.quantities(),
@@ -139,12 +159,12 @@ impl Draft {
         }
         match parse::line(text).map_err(|_| 24)? {
             Line::Range { .. } if self.rules_begun => Err(24),
-            Line::Range { name, low, high } => self.declare(name, low, high),
+            Line::Range { name, ends } => self.declare(name, ends.unwrap_or(self.default)),
             Line::Rule(nodes) => self.rule(&nodes),
         }
     }
 
-    fn declare(&mut self, name: Name, low: i64, high: i64) -> Result<(), u8> {
+    fn declare(&mut self, name: Name, (low, high): Ends) -> Result<(), u8> {
         if self.find(name).is_some() {
             return Err(25);
         }

@@ -5,7 +5,11 @@ use paper::{
 };
 
 fn desk(body: &str) -> String {
-    String::from_utf8(answer(format!("RUL 1\n{body}\n").as_bytes())).expect("plain text")
+    desk_of("RUL 1", body)
+}
+
+fn desk_of(mark: &str, body: &str) -> String {
+    String::from_utf8(answer(format!("{mark}\n{body}\n").as_bytes())).expect("plain text")
 }
 
 /// Solves with buffers of the right size.
@@ -85,6 +89,38 @@ fn the_other_examples() {
     assert!(desk("range a\nrange b\nmust a * b <= 5").starts_with("FOUND"));
     assert_eq!(desk("must 1 <= 2"), "REFUSED 30 0\n");
     assert_eq!(desk("range x 1 4\nmust x * x = 10"), "NONE 4\n");
+}
+
+#[test]
+fn versions_have_their_default_range() {
+    // 1,000,000 is halved to 0 in 20 steps, 200,000 in 18.
+    assert_eq!(desk_of("RUL 1", "range a"), "FOUND 21\na 0\n");
+    assert_eq!(desk_of("RUL 2", "range a"), "FOUND 19\na 0\n");
+    for (mark, inside, beyond) in [
+        ("RUL 1", "must a > 999999", "must a > 1000000"),
+        ("RUL 2", "must a > 199999", "must a > 200000"),
+    ] {
+        assert!(desk_of(mark, &format!("range a\n{inside}")).starts_with("FOUND"), "{mark}");
+        assert!(desk_of(mark, &format!("range a\n{beyond}")).starts_with("NONE"), "{mark}");
+    }
+    let three_factors = "range w\nrange h\nrange s 1 4\nmust w * h * s <= 5";
+    assert_eq!(desk_of("RUL 1", three_factors), "REFUSED 28 5\n");
+    assert!(desk_of("RUL 2", three_factors).ends_with("\nw 0\nh 0\ns 1\n"));
+    // K, M and G are the same in both.
+    assert_eq!(desk_of("RUL 2", "range a 4G 4G"), "FOUND 1\na 4294967296\n");
+}
+
+#[test]
+fn other_versions_are_refused() {
+    for version in ["0", "3", "4", "10", "12", "20", "65535"] {
+        assert_eq!(desk_of(&format!("RUL {version}"), "range a"), "REFUSED 22 1\n", "{version}");
+    }
+    for version in ["65536", "65538", "02", "2K", "-2", "2 ", ""] {
+        assert_eq!(desk_of(&format!("RUL {version}"), "range a"), "REFUSED 21 1\n", "{version}");
+    }
+    // It goes before every fault of a later line, and behind those of the text.
+    assert_eq!(desk_of("RUL 3", "nonsense"), "REFUSED 22 1\n");
+    assert_eq!(desk_of("RUL 3", "range a\t"), "REFUSED 20 0\n");
 }
 
 #[test]

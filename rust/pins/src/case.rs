@@ -3,14 +3,14 @@
 use brute::plain::Outcome;
 use brute::problems::{self, Problem};
 use brute::random::Random;
-use brute::tree;
+use brute::tree::{self, Sheet};
 use brute::{plain, sheets};
 use paper::{Answer, Translated};
 
 use crate::model;
 use crate::short;
 use crate::slip::{Slip, ALL};
-use crate::translation;
+use crate::translation::{self, Refusal};
 
 /// The budget of the problems that are to be decided.
 const LARGE_BUDGET: i64 = 1_000_000_000;
@@ -20,12 +20,22 @@ const MOST_BYTES: usize = 170;
 /// What the point buffer holds before a call.
 const NOISE: i64 = 7_777_777;
 
-/// The kind of an answer.
+/// The kind of an answer; a refusal has its number.
 #[derive(Clone, Copy, Debug, PartialEq, Eq)]
 pub enum Kind {
     None,
     Found,
     Stopped,
+    Refused(u8),
+}
+
+/// What is seen of an answer: its kind, the sweeps or a refusal's line, and
+/// the values that are shown.
+#[derive(Debug, PartialEq, Eq)]
+struct Seen {
+    kind: Kind,
+    count: i64,
+    values: Vec<i64>,
 }
 
 /// A case as its line in the data file, the kind of its answer, and for each
@@ -64,40 +74,42 @@ pub fn problem(seed: u64) -> Option<Case> {
     };
     let run = solved(&problem, budget);
     let line = problem_line(&problem, budget, &run);
-    let changed = changes(&run, budget, usize::MAX, |_| problem.clone());
-    (line.len() <= MOST_BYTES).then(|| Case { line, kind: kind(&run.0), changed, lists: None })
+    let right = seen(&run, problem.n());
+    // A slipped search that goes on past the right count is not followed to its end.
+    let budget = budget.min(run.1 + 1);
+    let slipped = |slip| seen(&model::run(&problem, budget, slip), problem.n());
+    let changed = changed(&right, slipped);
+    (line.len() <= MOST_BYTES).then_some(Case { line, kind: right.kind, changed, lists: None })
 }
 
 /// The sheet of a seed, if it is fit to be kept.
 pub fn sheet(seed: u64) -> Option<Case> {
     let mut random = Random::new(seed);
     let is_short = !random.once_in(3);
-    let lines = if is_short { short::sheet(&mut random) } else { sheets::small(&mut random) };
-    let text = tree::text(&lines);
-    let (problem, names) = accepted(&text)?;
-    let translated = |slip| translation::problem(&lines, slip);
-    assert_eq!(problem, translated(Slip::None), "{text}");
-    let room = 2 * problem.n() * (plain::depth(&problem) + 1);
-    let (_, needed) = model::run(&problem, MOST_SWEEPS, Slip::None);
-    if room > paper::DESK_WORKSPACE || needed == MOST_SWEEPS || text.len() > MOST_BYTES {
+    let sheet = if is_short { short::sheet(&mut random) } else { sheets::small(&mut random) };
+    let text = tree::text(&sheet);
+    let translated = |slip| translation::problem(&sheet, slip);
+    let (lists, names) = read(&text);
+    assert_eq!(lists, translated(Slip::None), "{text}");
+    let right = answered(&sheet, names.len(), MOST_SWEEPS, Slip::None);
+    if right.kind == Kind::Stopped || text.len() > MOST_BYTES {
         return None;
     }
-    let run = solved(&problem, paper::DESK_BUDGET);
-    let lists = Lists {
-        line: lists_line(&text, &problem, names.len()),
-        changed: ALL.iter().map(|&(slip, _)| translated(slip) != problem).collect(),
-    };
+    let slipped = |slip| answered(&sheet, names.len(), right.count + 1, slip);
     Some(Case {
-        line: sheet_line(&text, &names, &run),
-        kind: kind(&run.0),
-        changed: changes(&run, paper::DESK_BUDGET, names.len(), translated),
-        lists: Some(lists),
+        line: sheet_line(&text, &names, &right),
+        kind: right.kind,
+        changed: changed(&right, slipped),
+        lists: Some(Lists {
+            line: lists_line(&text, &lists, names.len()),
+            changed: changed(&lists, translated),
+        }),
     })
 }
 
-/// The problem and the names that the `paper` crate makes of a sheet, unless
-/// it is refused.
-fn accepted(text: &str) -> Option<(Problem, Vec<String>)> {
+/// The problem and the names that the `paper` crate makes of a sheet, or its
+/// refusal and no names.
+fn read(text: &str) -> (Result<Problem, Refusal>, Vec<String>) {
     let mut ranges = vec![0; paper::FULL_RANGES];
     let mut primitives = vec![0; paper::FULL_PRIMITIVES];
     let mut lengths = vec![0; paper::FULL_LENGTHS];
@@ -111,8 +123,9 @@ fn accepted(text: &str) -> Option<(Problem, Vec<String>)> {
         &mut literals,
         &mut names,
     );
-    let Translated::Accepted(counts) = translated else {
-        return None;
+    let counts = match translated {
+        Translated::Accepted(counts) => counts,
+        Translated::Refused { number, line } => return (Err((number, line)), Vec::new()),
     };
     ranges.truncate(2 * counts.quantities);
     primitives.truncate(4 * counts.primitives);
@@ -120,7 +133,26 @@ fn accepted(text: &str) -> Option<(Problem, Vec<String>)> {
     literals.truncate(3 * counts.literals);
     let name = |name: &[u8]| String::from_utf8_lossy(name).trim_end().to_string();
     let names = names.chunks(8).take(counts.declared).map(name).collect();
-    Some((Problem { ranges, primitives, lengths, literals }, names))
+    (Ok(Problem { ranges, primitives, lengths, literals }), names)
+}
+
+/// What the desk makes of a sheet, with a budget of its own and a slip.
+fn answered(sheet: &Sheet, declared: usize, budget: i64, slip: Slip) -> Seen {
+    let refused = |(number, line): Refusal| Seen {
+        kind: Kind::Refused(number),
+        count: line as i64,
+        values: Vec::new(),
+    };
+    match translation::problem(sheet, slip) {
+        Err(refusal) => refused(refusal),
+        Ok(problem) if room(&problem) > paper::DESK_WORKSPACE => refused((7, 0)),
+        Ok(problem) => seen(&model::run(&problem, budget, slip), declared),
+    }
+}
+
+/// The workspace that a problem needs.
+fn room(problem: &Problem) -> usize {
+    2 * problem.n() * (plain::depth(problem) + 1)
 }
 
 /// Puts a literal of a clause behind it once more.
@@ -140,7 +172,7 @@ type Run = (Outcome, i64);
 fn solved(problem: &Problem, budget: i64) -> Run {
     let n = problem.n();
     let mut point = vec![NOISE; n];
-    let mut work = vec![0; 2 * n * (plain::depth(problem) + 1)];
+    let mut work = vec![0; room(problem)];
     let solved = paper::solve(
         &problem.ranges,
         &problem.primitives,
@@ -161,33 +193,19 @@ fn solved(problem: &Problem, budget: i64) -> Run {
     run
 }
 
-/// For each slip, whether it changes what is seen of a run: the answer, the
-/// count, and the first `shown` values. A slipped search that goes on past the
-/// count of the right one is not followed to its end.
-fn changes(run: &Run, budget: i64, shown: usize, problem: impl Fn(Slip) -> Problem) -> Vec<bool> {
-    let budget = budget.min(run.1 + 1);
-    let seen = |(outcome, sweeps): &Run| {
-        let values: Vec<i64> = values(outcome).iter().copied().take(shown).collect();
-        (kind(outcome), *sweeps, values)
+/// For each slip, whether it makes something else.
+fn changed<T: PartialEq>(right: &T, slipped: impl Fn(Slip) -> T) -> Vec<bool> {
+    ALL.iter().map(|&(slip, _)| slipped(slip) != *right).collect()
+}
+
+/// What is seen of a run that shows so many values.
+fn seen((outcome, sweeps): &Run, shown: usize) -> Seen {
+    let (kind, values) = match outcome {
+        Outcome::None => (Kind::None, &[][..]),
+        Outcome::Found(point) => (Kind::Found, &point[..]),
+        Outcome::Stopped(floor) => (Kind::Stopped, &floor[..]),
     };
-    ALL.iter()
-        .map(|&(slip, _)| seen(&model::run(&problem(slip), budget, slip)) != seen(run))
-        .collect()
-}
-
-fn kind(outcome: &Outcome) -> Kind {
-    match outcome {
-        Outcome::None => Kind::None,
-        Outcome::Found(_) => Kind::Found,
-        Outcome::Stopped(_) => Kind::Stopped,
-    }
-}
-
-fn values(outcome: &Outcome) -> &[i64] {
-    match outcome {
-        Outcome::None => &[],
-        Outcome::Found(values) | Outcome::Stopped(values) => values,
-    }
+    Seen { kind, count: *sweeps, values: values.iter().copied().take(shown).collect() }
 }
 
 /// The answer's number (8 none, 9 found, 10 stopped), sweeps, workspace needed,
@@ -195,49 +213,56 @@ fn values(outcome: &Outcome) -> &[i64] {
 /// the ranges, primitives, lengths and literals, and the values but for none.
 fn problem_line(problem: &Problem, budget: i64, run: &Run) -> String {
     let n = problem.n();
-    let need = 2 * n * (plain::depth(problem) + 1);
-    let number = match kind(&run.0) {
-        Kind::None => 8,
-        Kind::Found => 9,
-        Kind::Stopped => 10,
+    let (number, values) = match &run.0 {
+        Outcome::None => (8, &[][..]),
+        Outcome::Found(point) => (9, &point[..]),
+        Outcome::Stopped(floor) => (10, &floor[..]),
     };
     let counts =
         [n, problem.primitives.len() / 4, problem.lengths.len(), problem.literals.len() / 3];
-    let mut numbers = vec![number, run.1, need as i64, budget];
+    let mut numbers = vec![number, run.1, room(problem) as i64, budget];
     numbers.extend(counts.map(|count| count as i64));
     for list in [&problem.ranges, &problem.primitives, &problem.lengths, &problem.literals] {
         numbers.extend(list);
     }
-    numbers.extend(values(&run.0));
+    numbers.extend(values);
     spaced(&numbers)
 }
 
 /// The sheet, a bar, and what the desk prints, with a slash for each LF.
-fn sheet_line(text: &str, names: &[String], run: &Run) -> String {
-    let word = match kind(&run.0) {
-        Kind::None => "NONE",
-        Kind::Found => "FOUND",
-        Kind::Stopped => "STOP",
+fn sheet_line(text: &str, names: &[String], seen: &Seen) -> String {
+    let shown = match seen.kind {
+        Kind::None => format!("NONE {}\n", seen.count),
+        Kind::Found => format!("FOUND {}\n", seen.count),
+        Kind::Stopped => format!("STOP {}\n", seen.count),
+        Kind::Refused(number) => format!("REFUSED {number} {}\n", seen.count),
     };
-    let shown = format!("{word} {}\n", run.1);
     let shown = names
         .iter()
-        .zip(values(&run.0))
+        .zip(&seen.values)
         .fold(shown, |shown, (name, value)| shown + &format!("{name} {value}\n"));
     assert_eq!(shown.as_bytes(), paper::answer(text.as_bytes()), "{text}");
     format!("{text}|{shown}").replace('\n', "/")
 }
 
-/// The sheet, a bar, 0, the counts of quantities, declared quantities,
-/// primitives, clauses and literals, and the four lists.
-fn lists_line(text: &str, problem: &Problem, declared: usize) -> String {
-    let Problem { ranges, primitives, lengths, literals } = problem;
-    let counts = [problem.n(), declared, primitives.len() / 4, lengths.len(), literals.len() / 3];
-    let mut numbers = vec![0];
-    numbers.extend(counts.map(|count| count as i64));
-    for list in [ranges, primitives, lengths, literals] {
-        numbers.extend(list);
-    }
+/// The sheet, a bar, and a refusal's number and line; or 0, the counts of
+/// quantities, declared quantities, primitives, clauses and literals, and the
+/// four lists.
+fn lists_line(text: &str, lists: &Result<Problem, Refusal>, declared: usize) -> String {
+    let numbers = match lists {
+        Err((number, line)) => vec![i64::from(*number), *line as i64],
+        Ok(problem) => {
+            let Problem { ranges, primitives, lengths, literals } = problem;
+            let counts =
+                [problem.n(), declared, primitives.len() / 4, lengths.len(), literals.len() / 3];
+            let mut numbers = vec![0];
+            numbers.extend(counts.map(|count| count as i64));
+            for list in [ranges, primitives, lengths, literals] {
+                numbers.extend(list);
+            }
+            numbers
+        }
+    };
     text.replace('\n', "/") + "|" + &spaced(&numbers)
 }
 

@@ -37,7 +37,7 @@ fn main() -> io::Result<ExitCode> {
     );
     let sheets = choice::keep(
         (0..SEEDS).filter_map(case::sheet).collect(),
-        &[(Kind::None, 45), (Kind::Found, 55)],
+        &[(Kind::None, 41), (Kind::Found, 49), (Kind::Refused(22), 6), (Kind::Refused(28), 4)],
     );
     let lists: Vec<&Lists> = sheets.iter().filter_map(|case| case.lists.as_ref()).collect();
     print_table(&[

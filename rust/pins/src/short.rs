@@ -1,22 +1,27 @@
 //! Short sheets in which names meet themselves often: `x * x`, `x - x`, `x + x`.
 
 use brute::random::Random;
-use brute::tree::{Comparison, Expr, Line, Rule};
+use brute::sheets::version;
+use brute::tree::{Comparison, Expr, Line, Rule, Sheet};
 
 const OPS: [&str; 6] = ["<=", "<", ">=", ">", "=", "!="];
 const NAMES: [&str; 3] = ["x", "y", "z"];
 
 /// A sheet of one to three names and one to three rules.
-pub fn sheet(random: &mut Random) -> Vec<Line> {
+pub fn sheet(random: &mut Random) -> Sheet {
+    let version = version(random);
     let count = 1 + random.below(3);
     let mut lines: Vec<Line> = NAMES[..count].iter().map(|name| range(random, name)).collect();
     for _ in 0..1 + random.below(3) {
         lines.push(Line::Rule(rule(random, count)));
     }
-    lines
+    Sheet { version, lines }
 }
 
 fn range(random: &mut Random, name: &str) -> Line {
+    if random.once_in(8) {
+        return Line::Default(name.to_string());
+    }
     let low = random.between(-9, 9);
     let high = low + random.between(0, 9);
     Line::Range { name: name.to_string(), low, high, tail: format!(" {low} {high}") }

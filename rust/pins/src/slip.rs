@@ -1,6 +1,6 @@
-//! The slips that the pinned cases guard against: each is one small departure from document 01.
+//! The slips that the pinned cases guard against: each is one small departure from documents 01 and 02.
 
-/// A departure from document 01, or none.
+/// A departure from the documents, or none.
 #[derive(Clone, Copy, Debug, PartialEq, Eq)]
 pub enum Slip {
     None,
@@ -30,10 +30,13 @@ pub enum Slip {
     RightFirst,
     DemandTurned,
     UnequalTurned,
+    OldDefaultStays,
+    NewDefaultAlways,
+    LaterVersionsTaken,
 }
 
 /// Every slip, with what it does.
-pub const ALL: [(Slip, &str); 26] = [
+pub const ALL: [(Slip, &str); 29] = [
     (Slip::SumSecondFirst, "a sum cuts y before x"),
     (Slip::ProductSecondFirst, "a product cuts y before x"),
     (Slip::EndByEnd, "the ends of a cut are applied one after the other"),
@@ -63,4 +66,7 @@ pub const ALL: [(Slip, &str); 26] = [
     (Slip::RightFirst, "the right operand's helpers first"),
     (Slip::DemandTurned, "an equality demand's clauses in the other order"),
     (Slip::UnequalTurned, "the literals of `!=` in the other order"),
+    (Slip::OldDefaultStays, "version 1's default range for version 2 too"),
+    (Slip::NewDefaultAlways, "version 2's default range for version 1 too"),
+    (Slip::LaterVersionsTaken, "a version from 3 on is taken as 2"),
 ];

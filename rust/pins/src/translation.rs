@@ -1,36 +1,66 @@
-//! The translation of a sheet that is accepted, from its tree, with slips as switches.
+//! The translation of a well-formed sheet, from its tree, with slips as switches.
 
 use brute::problems::Problem;
-use brute::tree::{Comparison, Expr, Line, Rule};
+use brute::tree::{Comparison, Expr, Line, Rule, Sheet};
+use brute::M;
 
 use crate::slip::Slip;
 
-/// The problem that an accepted sheet stands for.
-pub fn problem(lines: &[Line], slip: Slip) -> Problem {
-    let mut draft = Draft { problem: Problem::default(), names: Vec::new(), slip };
-    for line in lines {
+/// A refusal's number and line.
+pub type Refusal = (u8, usize);
+
+/// The problem that a sheet stands for, or its refusal: 22, 28 or 29.
+pub fn problem(sheet: &Sheet, slip: Slip) -> Result<Problem, Refusal> {
+    let top = default_top(sheet.version, slip).ok_or((22, 1))?;
+    let mut draft = Draft { problem: Problem::default(), names: Vec::new(), beyond: false, slip };
+    for (line, number) in sheet.lines.iter().zip(2..) {
         match line {
-            Line::Range { name, low, high, .. } => {
-                draft.names.push(name);
-                draft.problem.ranges.extend([low, high]);
-            }
+            Line::Range { name, low, high, .. } => draft.declare(name, *low, *high),
+            Line::Default(name) => draft.declare(name, 0, top),
             Line::Rule(rule) => draft.rule(rule),
             Line::Malformed(_) => {}
         }
+        if draft.beyond {
+            return Err((28, number));
+        }
+        if draft.problem.n() > 128 {
+            return Err((29, number));
+        }
     }
-    draft.problem
+    Ok(draft.problem)
 }
 
+/// Where the default range of a version ends; None if the version is refused.
+fn default_top(version: u16, slip: Slip) -> Option<i64> {
+    let (old, new) = (1_000_000, 200_000);
+    match version {
+        0 => None,
+        1 => Some(if slip == Slip::NewDefaultAlways { new } else { old }),
+        2 => Some(if slip == Slip::OldDefaultStays { old } else { new }),
+        _ => (slip == Slip::LaterVersionsTaken).then_some(new),
+    }
+}
+
+/// The problem so far, and whether a helper's range left plus or minus M.
 struct Draft<'a> {
     problem: Problem,
     names: Vec<&'a str>,
+    beyond: bool,
     slip: Slip,
 }
 
 /// The literals of one clause, three numbers each.
 type Clause = Vec<i64>;
 
-impl Draft<'_> {
+/// A range in wide numbers.
+type Ends = [i128; 2];
+
+impl<'a> Draft<'a> {
+    fn declare(&mut self, name: &'a str, low: i64, high: i64) {
+        self.names.push(name);
+        self.problem.ranges.extend([low, high]);
+    }
+
     fn rule(&mut self, rule: &Rule) {
         let mut clauses: [Clause; 2] = [Vec::new(), Vec::new()];
         let mut demand = false;
@@ -83,7 +113,7 @@ impl Draft<'_> {
     /// The quantity that stands for an expression.
     fn quantity(&mut self, expr: &Expr) -> i64 {
         match expr {
-            Expr::Number(value, _) => self.helper([*value, *value]),
+            Expr::Number(value, _) => self.helper([i128::from(*value); 2]),
             Expr::Name(name) => {
                 self.names.iter().position(|known| known == name).unwrap_or(0) as i64
             }
@@ -114,18 +144,23 @@ impl Draft<'_> {
         }
     }
 
-    fn ends(&self, quantity: i64) -> [i64; 2] {
+    fn ends(&self, quantity: i64) -> Ends {
         let place = 2 * quantity as usize;
-        [self.problem.ranges[place], self.problem.ranges[place + 1]]
+        [self.problem.ranges[place], self.problem.ranges[place + 1]].map(i128::from)
     }
 
-    fn helper(&mut self, ends: [i64; 2]) -> i64 {
-        self.problem.ranges.extend(ends);
+    /// A new quantity. What a range beyond plus or minus M would lead to is
+    /// never looked at, so it is cut off there.
+    fn helper(&mut self, ends: Ends) -> i64 {
+        let most = i128::from(M);
+        let kept = ends.map(|end| end.clamp(-most, most));
+        self.beyond |= kept != ends;
+        self.problem.ranges.extend(kept.map(|end| end as i64));
         self.problem.n() as i64 - 1
     }
 
     /// A helper that a primitive gives its value.
-    fn made(&mut self, kind: i64, ends: [i64; 2], a: i64, b: i64) -> i64 {
+    fn made(&mut self, kind: i64, ends: Ends, a: i64, b: i64) -> i64 {
         let helper = self.helper(ends);
         self.problem.primitives.extend([kind, helper, a, b]);
         helper

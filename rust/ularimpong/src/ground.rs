@@ -102,13 +102,13 @@ const ROWS: [Row; 19] = [
         ground: Ground::FirstLine,
         number: 21,
         meaning: "line 1 is not `RUL`, one space and a version",
-        advice: "write `RUL 1`",
+        advice: "write `RUL 2`",
     },
     Row {
         ground: Ground::Version,
         number: 22,
-        meaning: "the version is not 1",
-        advice: "write `RUL 1`",
+        meaning: "the version is not 1 or 2",
+        advice: "write `RUL 2`",
     },
     Row {
         ground: Ground::Brackets,
@@ -146,8 +146,8 @@ const ROWS: [Row; 19] = [
         ground: Ground::Beyond,
         number: 28,
         meaning: "a helper's range leaves plus or minus 10^12",
-        advice: "give tighter ranges: `range w` goes up to 1,000,000, and three such \
-                 multiplied pass 10^12",
+        advice: "give tighter ranges: `range w` goes up to 200,000 (1,000,000 in version 1), \
+                 and three such multiplied pass 10^12",
     },
     Row {
         ground: Ground::Many,

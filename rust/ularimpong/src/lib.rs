@@ -3,7 +3,7 @@
 //! ```no_run
 //! use ularimpong::{Outcome, Sheet};
 //!
-//! let sheet = Sheet::read(b"RUL 1\nrange w 1 10\nmust w * w > 30\n")?;
+//! let sheet = Sheet::read(b"RUL 2\nrange w 1 10\nmust w * w > 30\n")?;
 //! let report = sheet.solve(100_000)?;
 //! if let Outcome::Found(frame) = report.outcome {
 //!     for (name, value) in sheet.named(&frame) {

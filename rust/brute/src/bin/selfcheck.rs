@@ -9,7 +9,7 @@ use std::process::ExitCode;
 use brute::plain::{self, Outcome};
 use brute::problems::{self, Problem};
 use brute::random::Random;
-use brute::tree::{self, Line, Lists};
+use brute::tree::{self, Lists, Sheet};
 use brute::{cases, exhaust, shape, sheets};
 use paper::{Answer, Counts, Solved, Translated};
 use paper::{FULL_LENGTHS, FULL_LITERALS, FULL_NAMES, FULL_PRIMITIVES, FULL_RANGES};
@@ -263,9 +263,9 @@ fn counts_of(lists: &Lists) -> Counts {
 }
 
 /// Translates a sheet and compares with what its tree foretells.
-fn agrees_with_tree(lines: &[Line]) -> Result<Result<Lists, (u8, usize)>, String> {
-    let text = tree::text(lines);
-    let wanted = if text.len() > 4_096 { Err((20, 0)) } else { tree::predict(lines) };
+fn agrees_with_tree(sheet: &Sheet) -> Result<Result<Lists, (u8, usize)>, String> {
+    let text = tree::text(sheet);
+    let wanted = if text.len() > 4_096 { Err((20, 0)) } else { tree::predict(sheet) };
     let mut lent = Lent::noisy();
     let translated = lent.translate(text.as_bytes());
     let (expected, contents) = match &wanted {
@@ -289,16 +289,16 @@ fn as_problem(lists: &Lists) -> Problem {
 }
 
 fn small_sheet(random: &mut Random) -> Result<String, String> {
-    let lines = sheets::small(random);
-    let lists = match agrees_with_tree(&lines)? {
+    let sheet = sheets::small(random);
+    let lists = match agrees_with_tree(&sheet)? {
         Ok(lists) => lists,
         Err((number, _)) => return Ok(format!("refused {number}")),
     };
-    let text = tree::text(&lines);
+    let text = tree::text(&sheet);
     let run = agrees_with_plain(&as_problem(&lists), LARGE_BUDGET)?;
     let declared = lists.names.len();
     let first = exhaust::first_point(&lists.ranges[..2 * declared], |point| {
-        tree::obeys(&lines, &|name| {
+        tree::obeys(&sheet, &|name| {
             lists.names.iter().position(|known| known == name).map_or(0, |place| point[place])
         })
     });
@@ -332,14 +332,14 @@ fn desk_output(lists: &Lists) -> String {
 }
 
 fn faulty_sheet(random: &mut Random) -> Result<String, String> {
-    let lines = sheets::faulty(random);
-    match agrees_with_tree(&lines)? {
+    let sheet = sheets::faulty(random);
+    match agrees_with_tree(&sheet)? {
         Ok(lists) => {
             agrees_with_plain(&as_problem(&lists), random.between(0, 30))?;
             Ok("accepted".to_string())
         }
         Err((number, line)) => {
-            let desk = paper::answer(tree::text(&lines).as_bytes());
+            let desk = paper::answer(tree::text(&sheet).as_bytes());
             let wanted = format!("REFUSED {number} {line}\n");
             ensure(desk == wanted.as_bytes(), || format!("desk, not {wanted}"))?;
             Ok(number.to_string())
@@ -351,8 +351,8 @@ fn faulty_sheet(random: &mut Random) -> Result<String, String> {
 /// one may only come in an earlier line. A refusal writes nothing, and an
 /// accepted problem is sound.
 fn damaged_sheet(random: &mut Random) -> Result<String, String> {
-    let lines = if random.once_in(3) { sheets::faulty(random) } else { sheets::small(random) };
-    let text = sheets::damaged(random, &tree::text(&lines));
+    let sheet = if random.once_in(3) { sheets::faulty(random) } else { sheets::small(random) };
+    let text = sheets::damaged(random, &tree::text(&sheet));
     let shown = || String::from_utf8_lossy(&text).into_owned();
     let form = shape::fault(&text);
     let mut lent = Lent::noisy();
