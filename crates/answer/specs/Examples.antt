@@ -1,4 +1,5 @@
 -- Document 01's examples P1 to P12, as one list of cases with a computed test, and one theorem: all pass. P1 to P5 start from the sheet's text.
+-- In the same way an example of document 02's L3.
 use mathlib.Core.Path.{_≡_, refl}
 use mathlib.Core.Bool.{Bool, true, false, _&&_}
 use mathlib.Core.List.{List, [], _∷_, _++_}
@@ -201,6 +202,34 @@ examples =
     ∷ []))
     ∷ []
 
+-- ---- document 02, L3: a zero at the end of a factor's range
+abbrev pub zero-sheet : List String
+zero-sheet = "RUL 1" ∷ "range s 0 8" ∷ "range w 0 9" ∷ "must s * w = 12" ∷ []
+
+-- p = s * w is [0,72] and d = p - 12 is [-12,60], visited as p = d + 12. Sweep by sweep, what changes:
+--  1. p holds 0, so nothing is trimmed, and s and w hold 0, so both stay; d by the two clauses to [0,0]
+--  2. p by d + 12 to [12,12]
+--  3. p holds no 0: w is trimmed to [1,9], and s to 12/9 up, 2, and at most 8; then w by s to 12/8 up, 2, and 12/2: [2,6]
+--  4. s by w to 12/6 and 12/2: [2,6]
+--  5. nothing: 12/6 and 12/2, both ways; m = 4: s [2,4], and [5,6] waits
+--  6. w to 12/4 and 12/2: [3,6]
+--  7. nothing: s is within 12/6 and 12/3; m = 3: s [2,3], and [4,4] waits
+--  8. w to 12/3 and 12/2: [4,6]
+--  9. nothing: s is 12/6 to 12/4; m = 2: s [2,2], and [3,3] waits
+-- 10. w to 12/2: [6,6]
+-- 11. nothing, and every range is one value
+abbrev pub examples-L3 : List Case
+examples-L3 =
+    answers zero-sheet 100_000 answer.Found 11 (numbers "2 6")
+    ∷ prints zero-sheet ("FOUND 11" ∷ "s 2" ∷ "w 6" ∷ [])
+    -- before sweep 3 and behind it
+    ∷ answers zero-sheet 2 answer.Stopped 2 (numbers "0 0")
+    ∷ answers zero-sheet 3 answer.Stopped 3 (numbers "2 2")
+    -- it decides in sweep 11, and not before
+    ∷ answers zero-sheet 11 answer.Found 11 (numbers "2 6")
+    ∷ answers zero-sheet 10 answer.Stopped 10 (numbers "2 6")
+    ∷ []
+
 -- what the test computes with
 unfoldable opened : Unit {0}
 unfolding minZ maxZ floorQ ceilQ rootIn rootDown rootUp leastFrom leastPower cutTo cutOf openOf allSteps sweepOf step run openFrom depth lows
@@ -241,3 +270,7 @@ printed-open = tt
 pub all-hold : allPass examples ≡ true
 unfolding opened tokens-open read-open plain-open made-open clauses-open grounds-open outcome-open printed-open
 all-hold = refl
+
+pub all-hold-L3 : allPass examples-L3 ≡ true
+unfolding opened tokens-open read-open plain-open made-open clauses-open grounds-open outcome-open printed-open
+all-hold-L3 = refl

@@ -18,7 +18,7 @@ use Rattle.whole.proofs.Held.{Meeting, neither, alike, meeting}
 use Rattle.whole.proofs.Spans.{ends-is}
 use Rattle.problem.proofs.Tests.{by-bool}
 use Rattle.problem.specs.Problem.{Box, lowAt, highAt, rangeAt}
-use Rattle.narrow.specs.Cuts.{meetOf, putAt, Swept, empty, changed, unchanged, cutTo, cutOf, Cut, stay, to, Step, act, marked, next, steps}
+use Rattle.narrow.specs.Cuts.{meetOf, putAt, Swept, empty, changed, unchanged, cutTo, cutOf, Cut, stay, void, to, Step, act, marked, next, steps}
 use Rattle.narrow.specs.inner.Done.{Has, Fine, Seen, Replaced, sweptAs, Done}
 use Rattle.narrow.specs.declared.Status.{Status}
 use Rattle.narrow.specs.declared.Status.the-variants.{Empty, Changed, Same}
@@ -168,6 +168,14 @@ pub done-stay : (st : Step) (p : Status) (b : Box) → Fine b → st b ≡ stay 
 done-stay st p b f e = record { says = all p ∙ next-at st stay p b e; fine = f }
   where
     all : (p : Status) → sweptAs p b ≡ next (sweptAs p b) (λ _. stay)
+    all Empty = refl
+    all Changed = refl
+    all Same = refl
+
+pub done-void : (st : Step) (p : Status) (b : Box) → Fine b → st b ≡ void → Done (st ∷ []) p b Empty b
+done-void st p b f e = record { says = all p ∙ next-at st void p b e; fine = f }
+  where
+    all : (p : Status) → empty ≡ next (sweptAs p b) (λ _. void)
     all Empty = refl
     all Changed = refl
     all Same = refl

@@ -15,6 +15,7 @@ use Rattle.whole.proofs.Division.{floor-under, ceiling-over}
 use Rattle.whole.proofs.Quotients.{floor-from, floor-to, ceiling-from, ceiling-to, floor-mono, ceiling-mono, floor-turned, ceiling-turned}
 use Rattle.whole.proofs.Spans.{ends-is}
 use Rattle.problem.proofs.Tests.{by-bool}
+use Rattle.problem.specs.Problem.{Box, rangeAt}
 use Rattle.narrow.specs.Cuts.{meetOf, stay, to}
 use Rattle.narrow.specs.Narrowing.{quotientSpan, quotientCut}
 use Rattle.narrow.specs.inner.Product.{Moving}
@@ -157,6 +158,10 @@ module _ (x z y : Range) where
 -- of the ranges that were read
 pub moves-read : {x x′ z z′ y y′ : Range} {r : Bool} → x ≡ x′ → z ≡ z′ → y ≡ y′ → Moving x z y r → Moving x′ z′ y′ r
 moves-read {x} {x′} {z} {z′} {y} {y′} {r} ex ez ey m = subst (λ (t : Range). Moving t z′ y′ r) ex (subst (λ (t : Range). Moving x t y′ r) ez (subst (λ (t : Range). Moving x z t r) ey m))
+
+-- and as it was tested
+pub moves-tested : (b : Box) (x z y : ℕ) {r t : Bool} → r ≡ t → Moving (rangeAt b x) (rangeAt b z) (rangeAt b y) r → Moving (rangeAt b x) (rangeAt b z) (rangeAt b y) t
+moves-tested b x z y e m = subst (Moving (rangeAt b x) (rangeAt b z) (rangeAt b y)) e m
 
 -- an end that moves, of what x and the quotients have in common
 pub moved-meets : (x s : Range) → (x .low <ℤ s .low) ⊎ (s .high <ℤ x .high) → (x .low <ℤ meetOf x s .low) ⊎ (meetOf x s .high <ℤ x .high)

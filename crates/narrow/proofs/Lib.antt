@@ -16,3 +16,4 @@ pub mod Steps
 pub mod Sums
 pub mod SweepLaws
 pub mod Sweeping
+pub mod Trimmed

@@ -16,14 +16,14 @@ use Rattle.problem.specs.inner.Placed.{literalAt}
 use Rattle.problem.specs.declared.Literal.{Literal}
 use Rattle.problem.specs.declared.Literal.the-variants.{AtMost, AtLeast}
 use Rattle.problem.proofs.Lists.{literals-at, literals-end}
-use Rattle.narrow.specs.Cuts.{empty, void, to, next}
+use Rattle.narrow.specs.Cuts.{to}
 use Rattle.narrow.specs.Narrowing.{isFalse, openOf, literalCut, unitCut, clauseStep}
 use Rattle.narrow.specs.Named.{quantityOf}
-use Rattle.narrow.specs.inner.Done.{Has, Fine, sweptAs, Done}
+use Rattle.narrow.specs.inner.Done.{Has, Fine, Done}
 use Rattle.narrow.specs.inner.Clause.{askedOf, Lits}
 use Rattle.narrow.specs.declared.Status.{Status}
-use Rattle.narrow.specs.declared.Status.the-variants.{Empty, Changed, Same}
-use Rattle.narrow.proofs.Cutting.{next-at, done-span, done-stay}
+use Rattle.narrow.specs.declared.Status.the-variants.{Empty}
+use Rattle.narrow.proofs.Cutting.{next-at, done-span, done-stay, done-void}
 
 -- ---- one literal
 -- the range that it asks is empty, or cuts
@@ -112,12 +112,7 @@ module _ {b : Box} {l : List ℤ} {n only k : ℕ} (lits : Lits b l n) (read : R
   rest = ap (openOf b) (literals-end l k (omega (arith, lits .long)))
 
   pub clause-none : Fine b → n ≤ only → Done (clauseStep (literalsOf l) ∷ []) p b Empty b
-  clause-none f h = record { says = empty-by p ∙ next-at (clauseStep (literalsOf l)) void p b (ap (unitCut b) (read .none h ∙ rest)); fine = f }
-    where
-      empty-by : (p : Status) → empty ≡ next (sweptAs p b) (λ _. void)
-      empty-by Empty = refl
-      empty-by Changed = refl
-      empty-by Same = refl
+  clause-none f h = done-void (clauseStep (literalsOf l)) p b f (ap (unitCut b) (read .none h ∙ rest))
 
   pub clause-one : only < n → {x : Literal} → x ≡ literalAt l only → {r : Status} {b′ : Box} → Done ((λ c. literalCut c x) ∷ []) p b r b′ → Done (clauseStep (literalsOf l) ∷ []) p b r b′
   clause-one h {x} ex {r} {b′} d = record {

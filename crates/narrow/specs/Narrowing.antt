@@ -1,13 +1,14 @@
--- The cuts of each constraint, in order: document 01, "Narrowing one constraint". Quantities are z, x, y, and Z, X, Y their ranges; a step names
--- the quantity that it cuts, then those that it is cut by.
+-- The cuts of each constraint, in order: document 01, "Narrowing one constraint", and document 02, L3. Quantities are z, x, y, and Z, X, Y their
+-- ranges; a step names the quantity that it cuts, then those that it is cut by.
 use mathlib.Core.Bool.{Bool, cond}
 use mathlib.Core.List.{List, [], _∷_}
 use Prim.Native.Nat.{ℕ}
-use lib.IntN.{pos, negℤ}
+use lib.IntN.{pos, negsuc, negℤ}
 use lib.Signed.{ltZ, leZ}
 use Rattle.whole.specs.Numbers.{min4, max4, floorQ, ceilQ, rootDown, rootUp}
 use Rattle.whole.specs.Ranges.{range, holdsZero, sumSpan, differenceSpan, productSpan, squareSpan}
 use Rattle.whole.specs.declared.Range.{Range}
+use Rattle.problem.specs.Grounds.{differ}
 use Rattle.problem.specs.Problem.{Box, lowAt, highAt, rangeAt}
 use Rattle.problem.specs.declared.Primitive.{Primitive}
 use Rattle.problem.specs.declared.Primitive.the-variants.{Sum, Product, Square}
@@ -43,9 +44,23 @@ quotientCut x Z Y = cond (holdsZero Y) stay (to x (quotientSpan Z Y))
 abbrev pub quotientStep : ℕ → ℕ → ℕ → Step
 quotientStep x z y b = quotientCut x (rangeAt b z) (rangeAt b y)
 
--- then y likewise by x
+-- before each division, where z's range holds no 0: a divisor's range with low 0 and high above 0 gets low 1, one with high 0 and low below 0 gets
+-- high -1, and [0,0] is empty (document 02, L3)
+abbrev pub endZeroCut : ℕ → Range → Cut
+endZeroCut y Y =
+    cond (differ (Y .low) (pos 0))
+    (cond (differ (Y .high) (pos 0)) stay (to y (range (Y .low) (negsuc 0))))
+    (cond (differ (Y .high) (pos 0)) (to y (range (pos 1) (Y .high))) void)
+
+abbrev pub trimCut : ℕ → Range → Range → Cut
+trimCut y Y Z = cond (holdsZero Z) stay (endZeroCut y Y)
+
+abbrev pub trimStep : ℕ → ℕ → Step
+trimStep y z b = trimCut y (rangeAt b y) (rangeAt b z)
+
+-- cut z; then x by y, with y as divisor trimmed before; then y likewise by x
 abbrev pub productSteps : ℕ → ℕ → ℕ → List Step
-productSteps z x y = productStep z x y ∷ quotientStep x z y ∷ quotientStep y z x ∷ []
+productSteps z x y = productStep z x y ∷ trimStep y z ∷ quotientStep x z y ∷ trimStep x z ∷ quotientStep y z x ∷ []
 
 -- ---- Square: cut z to the exact range of squares
 abbrev pub squareStep : ℕ → ℕ → Step

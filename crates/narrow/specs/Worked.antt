@@ -1,7 +1,8 @@
--- Narrowings worked by hand from document 01's sentences, as one list of cases with a computed test, and one theorem: all pass.
+-- Narrowings worked by hand from the sentences of document 01, and of document 02's L3, as one list of cases with a computed test, and one theorem: all pass.
 use mathlib.Core.Path.{_≡_, refl}
 use mathlib.Core.Bool.{Bool, true, false, not, _&&_}
 use mathlib.Core.List.{List, [], _∷_, _++_}
+use Prim.Native.Nat.{ℕ}
 use lib.IntN.{ℤ, pos}
 use Rattle.whole.specs.Numbers.{minZ, maxZ, floorQ, ceilQ, rootIn, rootDown, rootUp}
 use Rattle.whole.specs.Quoted.{numbers}
@@ -12,7 +13,7 @@ use Rattle.problem.specs.declared.Primitive.the-variants.{Sum, Product, Square}
 use Rattle.problem.specs.declared.Literal.{Literal}
 use Rattle.problem.specs.declared.Literal.the-variants.{AtMost, AtLeast}
 use Rattle.narrow.specs.Cuts.{Swept, empty, changed, unchanged, steps, cutTo, cutOf}
-use Rattle.narrow.specs.Narrowing.{primitiveSteps, clauseStep, openOf}
+use Rattle.narrow.specs.Narrowing.{trimStep, primitiveSteps, clauseStep, openOf}
 use Rattle.narrow.specs.Sweep.{allSteps, sweepOf}
 
 -- ---- tests
@@ -35,6 +36,8 @@ sameSwept (unchanged a) (unchanged b) = sameList a b
 
 -- ---- cases
 pub data Case : Type 0 where
+  -- what a box becomes before z, the second quantity, is divided by the first
+  trim : ℕ → ℕ → Box → Swept → Case
   -- what one primitive makes of a box
   primitive : Primitive → Box → Swept → Case
   -- what one clause makes of a box
@@ -43,6 +46,7 @@ pub data Case : Type 0 where
   sweep : List Primitive → List (List Literal) → Box → Swept → Case
 
 abbrev pub passes : Case → Bool
+passes (trim y z b r) = sameSwept (steps (unchanged b) (trimStep y z ∷ [])) r
 passes (primitive p b r) = sameSwept (steps (unchanged b) (primitiveSteps p)) r
 passes (clause ls b r) = sameSwept (steps (unchanged b) (clauseStep ls ∷ [])) r
 passes (sweep ps cs b r) = sameSwept (sweepOf ps cs b) r
@@ -74,8 +78,35 @@ sums =
     ∷ primitive (Sum 0 1 0) (numbers "0 10  3 6") (changed (numbers "3 7  3 6"))
     ∷ []
 
+-- ---- before each division, where z's range holds no 0: a divisor's range with low 0 and high above 0 gets low 1, one with high 0 and low below 0
+-- gets high -1, and [0,0] is empty. Boxes: z, the divisor
+abbrev pub trims : List Case
+trims =
+    -- low 0, high above 0
+    trim 1 0 (numbers "12 12  0 8") (changed (numbers "12 12  1 8"))
+    ∷ trim 1 0 (numbers "12 12  0 1") (changed (numbers "12 12  1 1"))
+    -- high 0, low below 0
+    ∷ trim 1 0 (numbers "12 12  -8 0") (changed (numbers "12 12  -8 -1"))
+    ∷ trim 1 0 (numbers "12 12  -1 0") (changed (numbers "12 12  -1 -1"))
+    -- 0 alone
+    ∷ trim 1 0 (numbers "12 12  0 0") empty
+    -- a 0 strictly inside stays, as do ranges that hold none
+    ∷ trim 1 0 (numbers "12 12  -3 5") (unchanged (numbers "12 12  -3 5"))
+    ∷ trim 1 0 (numbers "12 12  1 8") (unchanged (numbers "12 12  1 8"))
+    ∷ trim 1 0 (numbers "12 12  -8 -1") (unchanged (numbers "12 12  -8 -1"))
+    -- z's range holds no 0, just above it and just below
+    ∷ trim 1 0 (numbers "1 9  0 8") (changed (numbers "1 9  1 8"))
+    ∷ trim 1 0 (numbers "-9 -1  0 8") (changed (numbers "-9 -1  1 8"))
+    -- it holds 0, inside, at its low end, at its high end, alone
+    ∷ trim 1 0 (numbers "-1 1  0 8") (unchanged (numbers "-1 1  0 8"))
+    ∷ trim 1 0 (numbers "0 9  0 8") (unchanged (numbers "0 9  0 8"))
+    ∷ trim 1 0 (numbers "-9 0  -8 0") (unchanged (numbers "-9 0  -8 0"))
+    ∷ trim 1 0 (numbers "0 0  0 0") (unchanged (numbers "0 0  0 0"))
+    ∷ []
+
 -- ---- Product: cut z to the least and greatest of the four end products. If y's range holds no 0, cut x to the least and greatest of the
--- four exact quotients of z's ends by y's ends, rounded up to the lower end and down to the upper end; otherwise x stays. Then y likewise by x
+-- four exact quotients of z's ends by y's ends, rounded up to the lower end and down to the upper end; otherwise x stays. Then y likewise by x.
+-- Before each division the divisor is trimmed
 abbrev pub products : List Case
 products =
     -- the four end products 15, -6, -20, 8; x and y hold 0, so both stay
@@ -92,20 +123,51 @@ products =
     ∷ primitive (Product 0 1 2) (numbers "8 8  -100 100  -2 -2") (changed (numbers "8 8  -4 -4  -2 -2"))
     -- four quotients by ends below 0: -20/-5, -20/-2, 12/-5, 12/-2, of which 12/-2 is the least and -20/-2 the greatest
     ∷ primitive (Product 0 1 2) (numbers "-20 12  -100 100  -5 -2") (changed (numbers "-20 12  -6 10  -5 -2"))
-    -- y holds 0, so x stays; then y by x: 6/10 up is 1, 8/2 is 4
-    ∷ primitive (Product 0 1 2) (numbers "6 8  2 10  0 3") (changed (numbers "6 8  2 10  1 3"))
-    -- 0 at the end of both ranges: both stay
-    ∷ primitive (Product 0 1 2) (numbers "6 8  -10 0  -3 0") (unchanged (numbers "6 8  -10 0  -3 0"))
+    -- y to [1, 3]; x to 6/3 and 8/1; then y by x: 6/8 up, 1, and 8/2 take nothing off
+    ∷ primitive (Product 0 1 2) (numbers "6 8  2 10  0 3") (changed (numbers "6 8  2 8  1 3"))
+    -- y to [1, 8]; x to 12/8 up, 2, and 12/1; then y by the x just cut, to 12/9 up, 2, and 12/2
+    ∷ primitive (Product 0 1 2) (numbers "12 12  1 9  0 8") (changed (numbers "12 12  2 9  2 6"))
+    -- y to [-8, -1]; x to -6/-8 up, 1, and -8/-1; then y by x: -8/1 and -6/8 down, -1, take nothing off
+    ∷ primitive (Product 0 1 2) (numbers "-8 -6  1 100  -8 0") (changed (numbers "-8 -6  1 8  -8 -1"))
+    -- a 0 strictly inside y still stops division, so x stays; x to [1, 8], then y to 6/8 up, 1, and 8/1
+    ∷ primitive (Product 0 1 2) (numbers "6 8  0 8  -3 5") (changed (numbers "6 8  1 8  1 5"))
+    -- likewise x to [-8, -1], then y to 8/-1 and 6/-8 down, -1
+    ∷ primitive (Product 0 1 2) (numbers "6 8  -8 0  -3 5") (changed (numbers "6 8  -8 -1  -3 -1"))
+    -- strictly inside both: both stay
+    ∷ primitive (Product 0 1 2) (numbers "6 8  -4 9  -3 5") (unchanged (numbers "6 8  -4 9  -3 5"))
+    -- 0 at the end of both ranges: y to [1, 7], x to 6/7 up, 1, and 8/1; then y by x: 6/8 up, 1, and 8/1 take nothing off
+    ∷ primitive (Product 0 1 2) (numbers "6 8  0 9  0 7") (changed (numbers "6 8  1 8  1 7"))
+    -- y to [-3, -1], x to 8/-1 and 6/-3; then y by x: 8/-2 and 6/-8 down, -1, take nothing off
+    ∷ primitive (Product 0 1 2) (numbers "6 8  -10 0  -3 0") (changed (numbers "6 8  -8 -2  -3 -1"))
+    -- y to [1, 4] is the only change: x to 2/4 up, 1, and 8/1, and y to 2/2 and 8/1, take nothing off
+    ∷ primitive (Product 0 1 2) (numbers "2 8  1 2  0 4") (changed (numbers "2 8  1 2  1 4"))
+    -- z's range holds 0, at its low end or its high end: nothing is trimmed, so both stay
+    ∷ primitive (Product 0 1 2) (numbers "0 8  0 4  0 2") (unchanged (numbers "0 8  0 4  0 2"))
+    ∷ primitive (Product 0 1 2) (numbers "-8 0  -4 0  0 2") (unchanged (numbers "-8 0  -4 0  0 2"))
+    -- z as it then is, [0, 8]
+    ∷ primitive (Product 0 1 2) (numbers "-2 9  0 4  0 2") (changed (numbers "0 8  0 4  0 2"))
+    -- z to [6, 15], y to [1, 5], x to 6/5 up, 2, and 15/1, then y to 6/3 and 15/2 down, 7
+    ∷ primitive (Product 0 1 2) (numbers "6 100  0 3  0 5") (changed (numbers "6 15  2 3  2 5"))
+    -- y is 0 alone: so are the end products
+    ∷ primitive (Product 0 1 2) (numbers "6 8  -3 4  0 0") empty
     -- y by the x just cut: x to 7/3 up, 3, and 7/1; then y to 7/7 and 7/3 down, 2 (by the x before it would stay [1, 3])
     ∷ primitive (Product 0 1 2) (numbers "7 7  1 7  1 3") (changed (numbers "7 7  3 7  1 2"))
     -- both ends of a cut by the ranges before it, z = x * x: x to 10/4 up, 3, and 10/1; then to 10/4 up, 3, and 10/3 down, 3
     ∷ primitive (Product 0 1 1) (numbers "10 10  1 4") (changed (numbers "10 10  3 3"))
+    -- z = x * x with x from 0: x as y to [1, 4], x to 10/4 up, 3, and 16/1; then 10/4 up, 3, and 16/3 down, 5, take nothing off
+    ∷ primitive (Product 0 1 1) (numbers "10 16  0 4") (changed (numbers "10 16  3 4"))
+    -- with x up to 0: x as y to [-3, -1], x to 9/-1 and 9/-3; then 9/-3 takes nothing off
+    ∷ primitive (Product 0 1 1) (numbers "9 9  -3 0") (changed (numbers "9 9  -3 -3"))
     -- z = x * x knows of no square: the four end products 9, -6, -6, 4
     ∷ primitive (Product 0 1 1) (numbers "-100 100  -3 2") (changed (numbers "-6 9  -3 2"))
     -- x = x * y: -8, -12, 18, 27 take nothing off; x to -4/2 and 9/2 down, 4; x holds 0, so y stays
     ∷ primitive (Product 0 0 1) (numbers "-4 9  2 3") (changed (numbers "-2 4  2 3"))
     -- x = x * y: x as z to [4*2, ..], x to [.., 20/2], then y to 8/10 up, 1, and 10/8 down, 1: empty
     ∷ primitive (Product 0 0 1) (numbers "4 20  2 3") empty
+    -- x = x * y: 0 to 45 takes nothing off; y to [1, 5]; x to 2/5 up, 1, and 9/1 takes nothing off; then y to 2/9 up, 1, and 9/2 down, 4
+    ∷ primitive (Product 0 0 1) (numbers "2 9  0 5") (changed (numbers "2 9  1 4"))
+    -- y = x * y: 0 to 60 takes nothing off; the 0 of y is z's, so y is not trimmed and x stays; then y to 0/3 and 20/2
+    ∷ primitive (Product 0 1 0) (numbers "0 20  2 3") (changed (numbers "0 10  2 3"))
     -- y = x * y: y as z to [2*4, ..], x to 8/20 up, 1, and 20/8 down, 2, then y to 8/2 and 20/2
     ∷ primitive (Product 0 1 0) (numbers "4 20  2 3") (changed (numbers "8 10  2 2"))
     -- end products pass 64 bits: 4294967296 squared is 18446744073709551616, above z's high end, and not 0
@@ -221,7 +283,7 @@ sweeps =
     ∷ []
 
 abbrev pub worked : List Case
-worked = sums ++ (products ++ (squares ++ (clauses ++ sweeps)))
+worked = sums ++ (trims ++ (products ++ (squares ++ (clauses ++ sweeps))))
 
 -- what the test computes with
 unfoldable opened : Unit {0}

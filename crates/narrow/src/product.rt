@@ -6,11 +6,11 @@ ghost use lib.IntN.{pos};
 ghost use lib.Signed.{_<ℤ_};
 ghost use Rattle.whole.specs.inner.Held.{Good};
 ghost use Rattle.problem.specs.Problem.{rangeAt};
-ghost use Rattle.narrow.specs.Narrowing.{productStep, quotientSpan, quotientStep, productSteps};
+ghost use Rattle.narrow.specs.Narrowing.{productStep, trimStep, quotientSpan, quotientStep, productSteps};
 ghost use Rattle.narrow.specs.declared.Status.{Status};
 ghost use Rattle.narrow.specs.declared.Status.the-variants.{Empty};
 ghost use Rattle.narrow.specs.inner.Done.{Has, Fine, Done};
-ghost use Rattle.narrow.specs.inner.Product.{Moving};
+ghost use Rattle.narrow.specs.inner.Product.{Moving, Trimming};
 use crate::Status;
 use whole::Range;
 
@@ -27,6 +27,40 @@ fn cut_product(b: &mut [i64], z: usize, x: usize, y: usize, prior: Status) -> St
     }
     let s = whole::span::product_above(p, q);
     crate::cut(b, z, s, prior)
+}
+
+// Whether y's range has a 0 at an end, and it goes because z's range holds none. A range that lies above 0 is told by its low end alone.
+fn trims(b: &[i64], y: usize, z: usize) -> bool
+    requires { ⌜ Fine (now b) ⌝ ∗ ⌜ Has (now b) y ⌝ ∗ ⌜ Has (now b) z ⌝ }
+    ensures { λ r. ⌜ Trimming (rangeAt (now (b .entry)) y) (rangeAt (now (b .entry)) z) r ⌝ }
+{
+    let by = crate::range_at(b, y);
+    if 0 < by.low {
+        return false;
+    }
+    if by.low < 0 {
+        if 0 < by.high {
+            return false;
+        }
+        if by.high < 0 {
+            return false;
+        }
+    }
+    !whole::span::holds_zero(crate::range_at(b, z))
+}
+
+// It goes: low 0 becomes 1, which leaves nothing of [0, 0]; high 0 becomes -1.
+fn trim(b: &mut [i64], y: usize, z: usize) -> Status
+    requires { ⌜ Fine (now b) ⌝ ∗ ⌜ Has (now b) y ⌝ ∗ ⌜ Trimming (rangeAt (now b) y) (rangeAt (now b) z) true ⌝ }
+    ensures { λ r. ⌜ ((p : Status) → (p ≡ Empty → ⊥) → Done (trimStep y z ∷ []) p (now (b .entry)) r (now (b .exit))) ⌝ }
+{
+    let old = crate::range_at(b, y);
+    if old.low < 0 {
+        let low = old.low;
+        return crate::replace(b, y, Range { low, high: -1 });
+    }
+    let high = old.high;
+    crate::replace(b, y, Range { low: 1, high })
 }
 
 // The quotients of z by y above 0: the sign of z's end says which end of y gives the least and which the greatest.
@@ -99,7 +133,7 @@ fn cut_below(b: &mut [i64], x: usize, z: usize, y: usize, prior: Status) -> Stat
     crate::cut(b, x, s, prior)
 }
 
-// The three cuts of a product.
+// The cuts of a product, until a range is empty.
 pub fn narrow(b: &mut [i64], z: usize, x: usize, y: usize, prior: Status) -> Status
     requires { ⌜ Fine (now b) ⌝ ∗ ⌜ Has (now b) z ⌝ ∗ ⌜ Has (now b) x ⌝ ∗ ⌜ Has (now b) y ⌝ }
     ensures { λ r. ⌜ Done (productSteps z x y) prior (now (b .entry)) r (now (b .exit)) ⌝ }
@@ -108,16 +142,24 @@ pub fn narrow(b: &mut [i64], z: usize, x: usize, y: usize, prior: Status) -> Sta
     if let Status::Empty = first {
         return Status::Empty;
     }
-    let second = if moves(b, x, z, y) {
+    let second = if trims(b, y, z) { trim(b, y, z) } else { first };
+    if let Status::Empty = second {
+        return Status::Empty;
+    }
+    let third = if moves(b, x, z, y) {
         divide(b, x, z, y)
     } else {
-        cut_below(b, x, z, y, first)
+        cut_below(b, x, z, y, second)
     };
-    if let Status::Empty = second {
+    if let Status::Empty = third {
+        return Status::Empty;
+    }
+    let fourth = if trims(b, x, z) { trim(b, x, z) } else { third };
+    if let Status::Empty = fourth {
         return Status::Empty;
     }
     if moves(b, y, z, x) {
         return divide(b, y, z, x);
     }
-    cut_below(b, y, z, x, second)
+    cut_below(b, y, z, x, fourth)
 }

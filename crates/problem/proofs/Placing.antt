@@ -34,7 +34,8 @@ within z e =
     let g = or-second (ltZ z minusM) (ltZ M z) e in
     record { low = omega ints; high = omega ints }
 
-same-number : (a b : ℤ) → differ a b ≡ false → a ≡ b
+-- two numbers that do not differ
+pub same-number : (a b : ℤ) → differ a b ≡ false → a ≡ b
 same-number a b e =
     let f = or-first (ltZ a b) (ltZ b a) e in
     let g = or-second (ltZ a b) (ltZ b a) e in
