@@ -45,6 +45,7 @@ pub fn made() -> Vec<Subject> {
         plain("126 sums, none cuts", quiet(1, [-200, 200], [-100, 100]), 2_000),
         plain("126 products round 0, none cuts", quiet(2, [-10_000, 10_000], [-100, 100]), 2_000),
         plain("126 products above 0, none cuts", quiet(2, [1, 10_000], [1, 100]), 2_000),
+        plain("126 products from 0, trimmed in sweep 1", quiet(2, [1, 10_000], [0, 100]), 2_000),
         plain("126 products past 64 bits, none cuts", quiet(2, [-M, M], [-M, M]), 2_000),
         plain("40 products, each cuts by quotients", quotients(), 5_000),
         plain("126 squares round 0, none cuts", quiet(3, [0, 10_000], [-100, 100]), 2_000),

@@ -245,10 +245,36 @@ fn narrowing_examples(list: &mut List) {
     let wraps = 4_294_967_296;
     list.add("product that wraps to 0", product([0, M], [wraps; 2], [wraps; 2]).is_none_after(1));
     list.add("square that wraps to 0", square([0, M], [wraps; 2]).is_none_after(1));
-    list.add("a divisor that holds 0", product([7, 9], wide, [0, 2]).leaves(1, -100, 100));
+    trimming_examples(list);
     list.add("a divisor below 0", product([7, 9], wide, [-2, -2]).leaves(1, -4, -4));
     let both = Given::new(&[-100, 100, -3, 2], &[2, 0, 1, 1]);
     list.add("x times x is no square", both.leaves(0, -6, 9));
+}
+
+/// Document 02's zero at the end of a factor's range.
+fn trimming_examples(list: &mut List) {
+    let wide = [-100, 100];
+    let mut leaves = |name: &str, [z, x, y]: [[i64; 2]; 3], after: [[i64; 2]; 3]| {
+        let given = Given::new(&[z, x, y].concat(), &[2, 0, 1, 2]);
+        let passed = after.iter().zip(0..).all(|(ends, q)| given.leaves(q, ends[0], ends[1]));
+        list.add(format!("a zero at an end: {name}"), passed);
+    };
+    let twelve = [12, 12];
+    leaves("low 0", [[7, 9], wide, [0, 2]], [[7, 9], [4, 9], [1, 2]]);
+    leaves("high 0", [twelve, wide, [-8, 0]], [twelve, [-12, -2], [-6, -1]]);
+    leaves("low 0, z below 0", [[-9, -7], wide, [0, 2]], [[-9, -7], [-9, -4], [1, 2]]);
+    leaves("both factors", [twelve, [0, 8], [0, 9]], [twelve, [2, 8], [2, 6]]);
+    leaves("0 inside stays", [twelve, wide, [-3, 5]], [twelve, wide, [-3, 5]]);
+    leaves("the second alone", [twelve, [0, 20], [-3, 5]], [twelve, [1, 20], [1, 5]]);
+    leaves("the second alone, high", [twelve, [-20, 0], [-3, 5]], [twelve, [-20, -1], [-3, -1]]);
+    leaves("z has 0", [[0, 9], wide, [0, 2]], [[0, 9], wide, [0, 2]]);
+    leaves("z has 0 at its high end", [[-9, 0], wide, [0, 2]], [[-9, 0], wide, [0, 2]]);
+    leaves("z has 0 and is 0", [[0, 9], wide, [0, 0]], [[0, 0], wide, [0, 0]]);
+    let zero = Given::new(&[1, 9, -100, 100, 0, 0], &[2, 0, 1, 2]);
+    list.add("a zero at an end: [0,0] is empty", zero.is_none_after(1));
+    let square = Given::new(&[5, 30, 0, 10], &[3, 0, 1, 0]);
+    list.add("a zero at an end: not for squares", square.leaves(1, 3, 5));
+    list.desk("range s 0 8\nrange w 0 9\nmust s * w = 12", "FOUND 11\ns 2\nw 6\n");
 }
 
 fn search_slips(list: &mut List) {

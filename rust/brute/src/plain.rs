@@ -145,11 +145,24 @@ fn product(r: &mut Ranges, z: usize, x: usize, y: usize) -> Option<()> {
     let greatest = products.iter().copied().fold(products[0], i128::max);
     cut(r, z, (least, greatest))?;
     for (target, by) in [(x, y), (y, x)] {
+        if !holds_zero(r[z]) {
+            r[by] = without_zero_at_an_end(r[by])?;
+        }
         if !holds_zero(r[by]) {
             cut(r, target, quotients(r[z], r[by]))?;
         }
     }
     Some(())
+}
+
+/// A divisor's range where z is not 0; None if it is empty then.
+fn without_zero_at_an_end(range: Range) -> Option<Range> {
+    match range {
+        (0, 0) => None,
+        (0, high) => Some((1, high)),
+        (low, 0) => Some((low, -1)),
+        other => Some(other),
+    }
 }
 
 fn holds_zero(range: Range) -> bool {

@@ -29,6 +29,9 @@ pub fn small(random: &mut Random) -> Problem {
         problem.ranges.extend([low, low + random.between(0, widest - 1)]);
     }
     add_primitives(random, &mut problem, 4);
+    if random.once_in(4) {
+        put_zero_at_an_end(random, &mut problem, |random| random.between(1, 9));
+    }
     if random.once_in(2) {
         fit_to_a_point(random, &mut problem);
     }
@@ -68,8 +71,32 @@ pub fn extreme(random: &mut Random) -> Problem {
         problem.ranges.extend([a.min(b), a.max(b)]);
     }
     add_primitives(random, &mut problem, 6);
+    if random.once_in(4) {
+        put_zero_at_an_end(random, &mut problem, |random| notable(random).abs().max(1));
+    }
     add_clauses(random, &mut problem, notable);
     problem
+}
+
+/// Gives a factor of some product a range that ends in 0, and its z one on
+/// one side of 0.
+fn put_zero_at_an_end(
+    random: &mut Random,
+    problem: &mut Problem,
+    reach: impl Fn(&mut Random) -> i64,
+) {
+    let products: Vec<[i64; 3]> =
+        problem.primitives.chunks(4).filter(|p| p[0] == 2).map(|p| [p[1], p[2], p[3]]).collect();
+    if products.is_empty() {
+        return;
+    }
+    let [z, x, y] = *random.pick(&products);
+    let factor = if random.once_in(2) { x } else { y };
+    for (quantity, nearest) in [(z, 1), (factor, 0)] {
+        let far = reach(random);
+        let range = if random.once_in(2) { [nearest, far] } else { [-far, -nearest] };
+        problem.ranges[2 * quantity as usize..][..2].copy_from_slice(&range);
+    }
 }
 
 /// A number within plus or minus M, often next to a notable one.

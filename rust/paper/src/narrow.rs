@@ -85,21 +85,62 @@ pub fn differences(a: Ends, b: Ends) -> Ends {
     (a.0 - b.1, a.1 - b.0)
 }
 
-/// z = x * y.
+/// z = x * y. The end products hold 0 exactly where a factor does, so one look
+/// at them tells that nothing can be trimmed.
 #[inline]
 pub fn product(frame: &mut Frame, z: Place, x: Place, y: Place) -> Narrowed {
     let (old_z, old_x, old_y) = (frame.range(z), frame.range(x), frame.range(y));
-    let new_z = inhabited(meet(old_z, end_products(old_x, old_y)))?;
+    let products = end_products(old_x, old_y);
+    let new_z = inhabited(meet(old_z, products))?;
+    if holds_zero(products) {
+        if holds_zero(new_z) {
+            // Neither factor is trimmed, and so neither divides.
+            if holds_zero(old_x) & holds_zero(old_y) {
+                return store(frame, [(z, old_z, new_z)]);
+            }
+        } else if ends_in_zero(old_x) | ends_in_zero(old_y) {
+            return trimming_product(frame, z, x, y);
+        }
+    }
     let new_x = inhabited(cut_to_quotients(old_x, new_z, old_y))?;
     let new_y = cut_to_quotients(old_y, new_z, new_x);
     store(frame, [(z, old_z, new_z), (x, old_x, new_x), (y, old_y, new_y)])
 }
 
+/// z = x * y where a factor is trimmed. A trimmed range stays so in its box,
+/// so this comes seldom.
+#[cold]
+#[inline(never)]
+fn trimming_product(frame: &mut Frame, z: Place, x: Place, y: Place) -> Narrowed {
+    shared_product(frame, z, x, y)
+}
+
 /// z = x * y where a quantity stands in several places.
 pub fn shared_product(frame: &mut Frame, z: Place, x: Place, y: Place) -> Narrowed {
     recut(frame, z, meet(frame.range(z), end_products(frame.range(x), frame.range(y))))?;
+    recut(frame, y, trimmed(frame.range(y), frame.range(z)))?;
     recut(frame, x, cut_to_quotients(frame.range(x), frame.range(z), frame.range(y)))?;
+    recut(frame, x, trimmed(frame.range(x), frame.range(z)))?;
     recut(frame, y, cut_to_quotients(frame.range(y), frame.range(z), frame.range(x)))
+}
+
+/// A divisor's range before it divides: where z holds no 0, it loses a 0 at
+/// its end, and [0, 0] becomes empty.
+fn trimmed((low, high): Ends, z: Ends) -> Ends {
+    if holds_zero(z) {
+        return (low, high);
+    }
+    (low + i64::from(low == 0), high - i64::from(high == 0))
+}
+
+#[inline(always)]
+fn holds_zero((low, high): Ends) -> bool {
+    (low <= 0) & (high >= 0)
+}
+
+#[inline(always)]
+fn ends_in_zero((low, high): Ends) -> bool {
+    (low == 0) | (high == 0)
 }
 
 /// The least and greatest of the four end products, saturated.
@@ -326,6 +367,67 @@ mod tests {
     fn division_by_a_range_below_zero() {
         let narrowed = after_product((7, 9), (-100, 100), (-2, -2));
         assert_eq!(narrowed, Some([(7, 9), (-4, -4), (-2, -2)]));
+    }
+
+    #[test]
+    fn a_divisor_loses_a_zero_at_its_end() {
+        let twelve = (12, 12);
+        assert_eq!(after_product(twelve, (0, 8), (0, 9)), Some([twelve, (2, 8), (2, 6)]));
+        assert_eq!(after_product(twelve, (-20, 20), (-8, 0)), Some([twelve, (-12, -2), (-6, -1)]));
+        let below = (-12, -12);
+        assert_eq!(after_product(below, (-20, 20), (0, 8)), Some([below, (-12, -2), (1, 6)]));
+    }
+
+    #[test]
+    fn a_zero_inside_a_divisor_stays() {
+        let twelve = (12, 12);
+        assert_eq!(after_product(twelve, (-20, 20), (-3, 5)), Some([twelve, (-20, 20), (-3, 5)]));
+        // x divides, trimmed or not, though y does not.
+        assert_eq!(after_product(twelve, (3, 20), (-3, 5)), Some([twelve, (3, 20), (1, 4)]));
+        assert_eq!(after_product(twelve, (0, 20), (-3, 5)), Some([twelve, (1, 20), (1, 5)]));
+    }
+
+    #[test]
+    fn nothing_is_trimmed_where_z_holds_zero() {
+        for z in [(0, 12), (-12, 0), (-1, 1)] {
+            let wide = [z, (-30, 30), (0, 9)];
+            assert_eq!(after_product(wide[0], wide[1], wide[2]), Some(wide));
+        }
+        assert_eq!(after_product((0, 12), (0, 8), (0, 9)), Some([(0, 12), (0, 8), (0, 9)]));
+        assert_eq!(after_product((0, 12), (0, 8), (3, 9)), Some([(0, 12), (0, 4), (3, 9)]));
+    }
+
+    #[test]
+    fn a_divisor_that_is_zero_is_empty() {
+        assert_eq!(after_product((1, 9), (-9, 9), (0, 0)), None);
+        assert_eq!(after_product((-9, -1), (0, 0), (-9, 9)), None);
+        assert_eq!(after_product((0, 9), (-9, 9), (0, 0)), Some([(0, 0), (-9, 9), (0, 0)]));
+        assert!(inhabited(trimmed((0, 0), (1, 9))).is_err());
+        assert_eq!(trimmed((0, 0), (0, 9)), (0, 0));
+    }
+
+    #[test]
+    fn a_trim_alone_is_a_change() {
+        let mut frame = Frame::new(&[1, 100, 1, 20, 0, 8]);
+        assert!(product(&mut frame, place(0), place(1), place(2)).is_ok());
+        assert_eq!((frame.range(place(2)), frame.changed), ((1, 8), true));
+        frame.changed = false;
+        assert!(product(&mut frame, place(0), place(1), place(2)).is_ok());
+        assert!(!frame.changed);
+    }
+
+    #[test]
+    fn trims_see_the_ranges_before_them() {
+        // x times x.
+        let mut frame = Frame::new(&[9, 9, 0, 5]);
+        assert!(shared_product(&mut frame, place(0), place(1), place(1)).is_ok());
+        assert_eq!(frame.range(place(1)), (2, 4));
+        // y = x * y, and x = x * y.
+        for [z, x, y] in [[1, 0, 1], [1, 1, 0]] {
+            let mut frame = Frame::new(&[0, 5, 2, 9]);
+            assert!(shared_product(&mut frame, place(z), place(x), place(y)).is_ok());
+            assert_eq!((frame.range(place(0)), frame.range(place(1))), ((1, 4), (2, 9)));
+        }
     }
 
     #[test]

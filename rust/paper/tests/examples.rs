@@ -124,6 +124,13 @@ fn other_versions_are_refused() {
 }
 
 #[test]
+fn a_zero_at_the_end_of_a_factors_range() {
+    let sheet = "range s 0 8\nrange w 0 9\nmust s * w = 12";
+    assert_eq!(desk(sheet), "FOUND 11\ns 2\nw 6\n");
+    assert_eq!(desk("range s -3 0\nrange w 0 5\nmust s * w = 0 - 4"), "FOUND 7\ns -2\nw 2\n");
+}
+
+#[test]
 fn one_line_of_a_text() {
     assert_eq!(line_span(b"RUL 1\nrange a\n", 2), (6, 13));
     assert_eq!(line_span(b"RUL 1\nrange a\n", 3), (14, 14));

@@ -1,4 +1,4 @@
-//! Document 01's narrowing and search with slips as switches: slow, plain, and
+//! The documents' narrowing and search with slips as switches: slow, plain, and
 //! with no slip the same as the `paper` crate.
 
 use std::collections::VecDeque;
@@ -23,7 +23,7 @@ pub fn run(problem: &Problem, budget: i64, slip: Slip) -> (Outcome, i64) {
         let swept = sweep(problem, &current, slip);
         let next = match &swept {
             None => taken(&mut waiting, slip).ok_or(Outcome::None),
-            Some(swept) => step(&current, swept, &mut waiting, slip),
+            Some(swept) => step(swept, &mut waiting, slip),
         };
         match next {
             Ok(next) => current = next,
@@ -43,25 +43,21 @@ fn taken(waiting: &mut VecDeque<Ranges>, slip: Slip) -> Option<Ranges> {
 }
 
 /// The box to go on with after a sweep that left something, or the point found.
-fn step(
-    before: &Ranges,
-    swept: &Ranges,
-    waiting: &mut VecDeque<Ranges>,
-    slip: Slip,
-) -> Result<Ranges, Outcome> {
+fn step(swept: &Frame, waiting: &mut VecDeque<Ranges>, slip: Slip) -> Result<Ranges, Outcome> {
+    let ranges = &swept.ranges;
     let is_open = |range: &Range| range.0 < range.1;
     let open = match slip {
-        Slip::LastOpenFirst => swept.iter().rposition(is_open),
-        _ => swept.iter().position(is_open),
+        Slip::LastOpenFirst => ranges.iter().rposition(is_open),
+        _ => ranges.iter().position(is_open),
     };
     match open {
-        None if swept == before || slip == Slip::FoundAtOnce => Err(Outcome::Found(lows(swept))),
-        Some(open) if swept == before => {
-            let (kept, stored) = halves(swept, open, slip);
+        None if !swept.changed || slip == Slip::FoundAtOnce => Err(Outcome::Found(lows(ranges))),
+        Some(open) if !swept.changed => {
+            let (kept, stored) = halves(ranges, open, slip);
             waiting.push_back(stored);
             Ok(kept)
         }
-        _ => Ok(swept.clone()),
+        _ => Ok(ranges.clone()),
     }
 }
 
@@ -83,8 +79,8 @@ fn lows(ranges: &Ranges) -> Vec<i64> {
 }
 
 /// A box after a sweep; None if a range ran empty.
-fn sweep(problem: &Problem, start: &Ranges, slip: Slip) -> Option<Ranges> {
-    let mut frame = Frame { ranges: start.clone(), slip };
+fn sweep(problem: &Problem, start: &Ranges, slip: Slip) -> Option<Frame> {
+    let mut frame = Frame { ranges: start.clone(), changed: false, slip };
     let primitives = problem.primitives.chunks(4).map(Constraint::Primitive);
     let clauses = clauses(problem).into_iter().map(Constraint::Clause);
     let constraints: Vec<Constraint> = match slip {
@@ -93,7 +89,7 @@ fn sweep(problem: &Problem, start: &Ranges, slip: Slip) -> Option<Ranges> {
     };
     for constraint in constraints {
         if slip == Slip::FromTheStart {
-            let mut alone = Frame { ranges: start.clone(), slip };
+            let mut alone = Frame { ranges: start.clone(), changed: false, slip };
             alone.narrow(constraint)?;
             for (quantity, range) in alone.ranges.into_iter().enumerate() {
                 frame.meet(quantity, range)?;
@@ -102,7 +98,7 @@ fn sweep(problem: &Problem, start: &Ranges, slip: Slip) -> Option<Ranges> {
             frame.narrow(constraint)?;
         }
     }
-    Some(frame.ranges)
+    Some(frame)
 }
 
 /// The literals of each clause.
@@ -124,9 +120,11 @@ enum Constraint<'a> {
     Clause(&'a [i64]),
 }
 
-/// The box in a sweep. Every cut gives None if the range is empty then.
+/// The box in a sweep, and whether a cut changed it. Every cut gives None if
+/// the range is empty then.
 struct Frame {
     ranges: Ranges,
+    changed: bool,
     slip: Slip,
 }
 
@@ -147,7 +145,9 @@ impl Frame {
 
     fn meet(&mut self, quantity: usize, (low, high): Range) -> Option<()> {
         let range = &mut self.ranges[quantity];
+        let before = *range;
         *range = (range.0.max(low), range.1.min(high));
+        self.changed |= *range != before;
         (range.0 <= range.1).then_some(())
     }
 
@@ -174,10 +174,27 @@ impl Frame {
     fn product(&mut self, z: usize, x: usize, y: usize) -> Option<()> {
         let slip = self.slip;
         self.cut(z, |r| end_products(r[x], r[y], slip))?;
-        for (one, by) in operands(x, y, slip == Slip::ProductSecondFirst) {
-            if divides(self.ranges[by], slip) {
-                self.cut(one, |r| quotients(r[z], divisors(r[by], slip), slip))?;
+        let operands = operands(x, y, slip == Slip::ProductSecondFirst);
+        for ((one, by), is_first) in operands.into_iter().zip([true, false]) {
+            if trims(self.ranges[z], is_first, slip) {
+                self.trim(by)?;
             }
+            if divides(divisors(self.ranges[by], self.ranges[z], slip), slip) {
+                self.cut(one, |r| quotients(r[z], divisors(r[by], r[z], slip), slip))?;
+            }
+        }
+        Some(())
+    }
+
+    /// Takes a 0 at its end from a divisor's range.
+    fn trim(&mut self, by: usize) -> Option<()> {
+        let changed = self.changed;
+        if self.ranges[by] == (0, 0) && self.slip == Slip::TrimSparesZero {
+            return Some(());
+        }
+        self.meet(by, without_end_zero(self.ranges[by]))?;
+        if self.slip == Slip::TrimUncounted {
+            self.changed = changed;
         }
         Some(())
     }
@@ -272,20 +289,38 @@ fn end_products(x: Range, y: Range, slip: Slip) -> Range {
     (products[0], products[3])
 }
 
+/// Whether a divisor's range is trimmed before the first or the second division.
+fn trims(z: Range, is_first: bool, slip: Slip) -> bool {
+    match slip {
+        Slip::NoTrim | Slip::TrimForgotten => false,
+        Slip::FirstTrimOnly => is_first && !holds_zero(z),
+        Slip::TrimsThoughZero => true,
+        _ => !holds_zero(z),
+    }
+}
+
+fn holds_zero(range: Range) -> bool {
+    range.0 <= 0 && 0 <= range.1
+}
+
+/// A range without a 0 at its end; empty for [0, 0].
+fn without_end_zero((low, high): Range) -> Range {
+    (if low == 0 { 1 } else { low }, if high == 0 { -1 } else { high })
+}
+
 /// Whether a range may be divided by.
 fn divides(by: Range, slip: Slip) -> bool {
     match slip {
         Slip::NoNegativeDivisor => by.0 > 0,
-        Slip::DividesByEdgeZero => by != (0, 0) && (by.0 >= 0 || by.1 <= 0),
-        _ => by.0 > 0 || by.1 < 0,
+        _ => by.0 <= by.1 && !holds_zero(by),
     }
 }
 
 /// The range that is divided by.
-fn divisors(by: Range, slip: Slip) -> Range {
+fn divisors(by: Range, z: Range, slip: Slip) -> Range {
     match slip {
-        Slip::DividesByEdgeZero if by.0 == 0 => (1, by.1),
-        Slip::DividesByEdgeZero if by.1 == 0 => (by.0, -1),
+        Slip::DividesByEdgeZero => without_end_zero(by),
+        Slip::TrimForgotten if !holds_zero(z) => without_end_zero(by),
         _ => by,
     }
 }
@@ -312,8 +347,8 @@ fn floor(a: i128, b: i128) -> i128 {
 
 fn squares(x: Range, slip: Slip) -> Range {
     let (a, b) = (x.0 * x.0, x.1 * x.1);
-    let holds_zero = x.0 <= 0 && 0 <= x.1 && slip != Slip::SquareWithoutZero;
-    (if holds_zero { 0 } else { a.min(b) }, a.max(b))
+    let is_zero_least = holds_zero(x) && slip != Slip::SquareWithoutZero;
+    (if is_zero_least { 0 } else { a.min(b) }, a.max(b))
 }
 
 /// The root rounded down, by halving an interval that holds it.

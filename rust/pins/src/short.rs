@@ -22,8 +22,14 @@ fn range(random: &mut Random, name: &str) -> Line {
     if random.once_in(8) {
         return Line::Default(name.to_string());
     }
-    let low = random.between(-9, 9);
-    let high = low + random.between(0, 9);
+    let (low, high) = match random.below(6) {
+        0 => (0, random.between(1, 9)),
+        1 => (-random.between(1, 9), 0),
+        _ => {
+            let low = random.between(-9, 9);
+            (low, low + random.between(0, 9))
+        }
+    };
     Line::Range { name: name.to_string(), low, high, tail: format!(" {low} {high}") }
 }
 

@@ -10,6 +10,12 @@ pub enum Slip {
     TowardsZero,
     NoNegativeDivisor,
     DividesByEdgeZero,
+    NoTrim,
+    FirstTrimOnly,
+    TrimsThoughZero,
+    TrimSparesZero,
+    TrimUncounted,
+    TrimForgotten,
     WrappedProducts,
     NoLowering,
     NoRaising,
@@ -36,13 +42,22 @@ pub enum Slip {
 }
 
 /// Every slip, with what it does.
-pub const ALL: [(Slip, &str); 29] = [
+pub const ALL: [(Slip, &str); 35] = [
     (Slip::SumSecondFirst, "a sum cuts y before x"),
     (Slip::ProductSecondFirst, "a product cuts y before x"),
     (Slip::EndByEnd, "the ends of a cut are applied one after the other"),
     (Slip::TowardsZero, "quotients are rounded towards 0"),
     (Slip::NoNegativeDivisor, "no division by a range below 0"),
-    (Slip::DividesByEdgeZero, "division by a range that ends in 0, without that 0"),
+    (
+        Slip::DividesByEdgeZero,
+        "division by a range that ends in 0, without that 0, though z holds 0",
+    ),
+    (Slip::NoTrim, "a divisor's range is never trimmed"),
+    (Slip::FirstTrimOnly, "a divisor's range is trimmed before the first division only"),
+    (Slip::TrimsThoughZero, "a divisor's range is trimmed though z holds 0"),
+    (Slip::TrimSparesZero, "a divisor's range [0,0] is not empty"),
+    (Slip::TrimUncounted, "a trim is not counted as a change"),
+    (Slip::TrimForgotten, "a trimmed range divides, but does not stay"),
     (Slip::WrappedProducts, "end products are wrapped to 64 bits"),
     (Slip::NoLowering, "a square never lowers x (x at most 0)"),
     (Slip::NoRaising, "a square never raises x (x at least 0)"),
