@@ -20,7 +20,7 @@ use Rattle.meaning.specs.Lists.{rangeList, primitiveList, lengthList, literalsI
 use Rattle.meaning.specs.Draft.{Draft, quantitiesIn, problemIn}
 use Rattle.meaning.specs.Grounds.{read, outcomeOf}
 use Rattle.meaning.proofs.FlatLists.{ranges-length, names-length}
-use Rattle.meaning.proofs.Fits.{read-back}
+use Rattle.meaning.proofs.Fits.{fits, read-back}
 use Rattle.sheet.specs.Text.{bytes}
 use Rattle.answer.specs.Output.{refusedLine, countLine, answerLines, deskBudget, deskWork, deskPoint, solvedOf}
 use Rattle.answer.specs.inner.Writing.{linesFor}
@@ -54,10 +54,10 @@ zeros-length n m h = sym (length-take-le n (replicate m (pos 0)) (simp length-re
 pub names-fit : (names : List ℕ) (l : List ℤ) → 8 * length (take (length names / 8) l) ≤ length names
 names-fit names l = omega (arith, length-take (length names / 8) l)
 
-pub report-on : (rs ps ns ls : List ℤ) (names : List ℕ) (point work p w rest : List ℤ) (r : Solved) → Solves rs ps ns ls (pos deskBudget) point work p w r → point ≡ replicate (length rs / 2) (pos 0) → work ≡ deskWork → length names / 8 ≤ length p → reportOf (r .answer) (r .sweeps) names (take (length names / 8) (p ++ rest)) ≡ reportOn rs ps ns ls names
+pub report-on : (rs ps ns ls : List ℤ) (names : List ℕ) (lead : ℤ) (point work p w rest : List ℤ) (r : Solved) → Solves rs ps ns ls lead (pos deskBudget) point work p w r → lead ≡ pos (length names / 8) → point ≡ replicate (length rs / 2) (pos 0) → work ≡ deskWork → length names / 8 ≤ length p → reportOf (r .answer) (r .sweeps) names (take (length names / 8) (p ++ rest)) ≡ reportOn rs ps ns ls names
 unfolding reportOn
-report-on rs ps ns ls names point work p w rest r h e f l =
-    rw (take-append-le (length names / 8) p rest l, h .result, h .point, e, f)
+report-on rs ps ns ls names lead point work p w rest r h d e f l =
+    rw (take-append-le (length names / 8) p rest l, h .result, h .point, d, e, f)
 
 -- ---- one sheet
 report-is : (a : Answer) (k : ℕ) (ns : List ℕ) (zs : List ℤ) → AllOf Lettered ns → reportOf a k (nameBytes ns) (take (length ns) zs) ≡ answerLines a k ns zs
@@ -70,13 +70,15 @@ pub report-sheet : (t : List ℕ) (s : Draft) → outcomeOf t ≡ read s → rep
 unfolding reportOn solvedOf
 report-sheet t s e =
     let rs = s .declared ++ s .made .ranges in
-    let j : List ℤ → Judged = λ point. judged (rangeList rs) (primitiveList (s .made .primitives)) (lengthList (s .made .clauses)) (literalList (literalsIn (s .made .clauses))) (pos deskBudget) point deskWork in
+    let j : ℕ → List ℤ → Judged = λ lead point. judged (rangeList rs) (primitiveList (s .made .primitives)) (lengthList (s .made .clauses)) (literalList (literalsIn (s .made .clauses))) (pos lead) (pos deskBudget) point deskWork in
     let o = searchOf (problemIn s) deskBudget in
     let n : length (rangeList rs) / 2 ≡ quantitiesIn s = omega (arith, ranges-length rs, length-append (s .declared) (s .made .ranges)) in
     let d : length (nameBytes (s .names)) / 8 ≡ length (s .names) = omega (arith, names-length (s .names)) in
-    let r = resultOf (j (deskPoint s)) deskBudget o in
-    let zs = unless (j (deskPoint s)) (pointOf o (deskPoint s)) (deskPoint s) in
-    ap (λ (p : Problem). reportBy (j (replicate (length (rangeList rs) / 2) (pos 0))) (searchOf p deskBudget) (nameBytes (s .names)) (replicate (length (rangeList rs) / 2) (pos 0))) (read-back s)
-    ∙ ap (λ (k : ℕ). reportBy (j (replicate k (pos 0))) o (nameBytes (s .names)) (replicate k (pos 0))) n
+    let lead = length (s .declared) in
+    let r = resultOf (j lead (deskPoint s)) deskBudget o in
+    let zs = unless (j lead (deskPoint s)) (pointOf o (deskPoint s)) (deskPoint s) in
+    ap (λ (p : Problem). reportBy (j (length (nameBytes (s .names)) / 8) (replicate (length (rangeList rs) / 2) (pos 0))) (searchOf p deskBudget) (nameBytes (s .names)) (replicate (length (rangeList rs) / 2) (pos 0))) (read-back s)
+    ∙ ap (λ (k : ℕ). reportBy (j k (replicate (length (rangeList rs) / 2) (pos 0))) o (nameBytes (s .names)) (replicate (length (rangeList rs) / 2) (pos 0))) (d ∙ fits t s e .many)
+    ∙ ap (λ (k : ℕ). reportBy (j lead (replicate k (pos 0))) o (nameBytes (s .names)) (replicate k (pos 0))) n
     ∙ ap (λ (k : ℕ). reportOf (r .answer) (r .sweeps) (nameBytes (s .names)) (take k zs)) d
     ∙ report-is (r .answer) (r .sweeps) (s .names) zs (names-lettered t s e)

@@ -32,6 +32,6 @@ module _ (t : List ℕ) (s : Draft) (e : outcomeOf t ≡ read s) (ls : List Line
         }
 
 pub sheet-answered : SheetAnswer
-sheet-answered t s e budget p₀ w₀ p w r solves sound =
+sheet-answered t s e lead budget p₀ w₀ p w r solves sound =
     let d = demand3.demand3 t s e in
     (d .0, d .1, means t s e (d .0) (d .3) (rw (read-back s) at (sound-right solves sound)))

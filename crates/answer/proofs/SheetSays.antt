@@ -31,7 +31,7 @@ use Rattle.meaning.specs.Grounds.{topIn, outcomeOf, read}
 use Rattle.meaning.specs.Demand3.{Faithful}
 use Rattle.meaning.proofs.LineInduction.{names-declared}
 use Rattle.meaning.proofs.Demand3.{SoFar, text-trees, faithful, counted}
-use Rattle.meaning.proofs.Fits.{fits, accepted-sound, read-back}
+use Rattle.meaning.proofs.Fits.{fits, accepted-sound, accepted-leads, read-back}
 use Rattle.meaning.proofs.TextGrounds.{grounds-back}
 use Rattle.answer.specs.Output.{countLine, valueLines, answerLines, rangeListOf, primitiveListOf, lengthListOf, literalListOf, deskBudget, deskWork, deskPoint, solvedOf}
 use Rattle.answer.specs.Sheets.{byPoint, NoneObeysBefore, Means}
@@ -45,7 +45,7 @@ Kind t out = SaysNone t out ⊎ (SaysFound t out ⊎ (SaysStop t out ⊎ SaysRef
 
 module _ (t : List ℕ) (s : Draft) (e : outcomeOf t ≡ read s) where
   abbrev verdict : Judged
-  verdict = judged (rangeListOf s) (primitiveListOf s) (lengthListOf s) (literalListOf s) (pos deskBudget) (deskPoint s) deskWork
+  verdict = judged (rangeListOf s) (primitiveListOf s) (lengthListOf s) (literalListOf s) (pos (length (s .declared))) (pos deskBudget) (deskPoint s) deskWork
 
   abbrev outcome : Outcome
   outcome = searchOf (problemIn s) deskBudget
@@ -71,6 +71,9 @@ module _ (t : List ℕ) (s : Draft) (e : outcomeOf t ≡ read s) where
   named : s .names ≡ declaredIn trees
   named = ap (λ (u : Draft). u .names) (made .made) ∙ names-declared (topIn t) blank trees
 
+  many : length (s .declared) ≡ length (declaredIn trees)
+  many = sym (fits t s e .many) ∙ ap length named
+
   same : Faithful (topIn t) trees (s .names) (problemIn s)
   same = faithful (topIn t) trees s (made .kept) (fits t s e .distinct)
 
@@ -78,32 +81,32 @@ module _ (t : List ℕ) (s : Draft) (e : outcomeOf t ≡ read s) where
   point-has : length (deskPoint s) ≡ quantities (rangeListOf s)
   point-has = length-replicate (quantitiesIn s) (pos 0) ∙ sym (counted s)
 
-  room-test : badRoom (rangeListOf s) (deskPoint s) deskWork ≡ ltb 8_192 (roomOf (rangeListOf s))
+  room-test : badRoom (pos (length (s .declared))) (rangeListOf s) (deskPoint s) deskWork ≡ ltb 8_192 (roomOf (length (s .declared)) (rangeListOf s))
   room-test =
-      ap₂ (λ (b : Bool) (n : ℕ). not b || ltb n (roomOf (rangeListOf s))) (eq-eqb (length (deskPoint s)) (quantities (rangeListOf s)) point-has) (length-replicate 8_192 (pos 0))
+      ap₂ (λ (b : Bool) (n : ℕ). not b || ltb n (roomOf (length (s .declared)) (rangeListOf s))) (eq-eqb (length (deskPoint s)) (quantities (rangeListOf s)) point-has) (length-replicate 8_192 (pos 0))
 
-  verdict-is : verdict ≡ cond (ltb 8_192 (roomOf (rangeListOf s))) (Refused Room) Sound
+  verdict-is : verdict ≡ cond (ltb 8_192 (roomOf (length (s .declared)) (rangeListOf s))) (Refused Room) Sound
   unfolding judged
-  verdict-is = rw (accepted-sound t s e, room-test)
+  verdict-is = rw (accepted-sound t s e, accepted-leads t s e, room-test)
 
-  wide : ltb 8_192 (roomOf (rangeListOf s)) ≡ true → TooWide t 7 0
+  wide : ltb 8_192 (roomOf (length (s .declared)) (rangeListOf s)) ≡ true → TooWide t 7 0
   wide h =
       record {
         ground = refl;
         line = refl;
         trees = trees;
         sheet = sheet;
-        room = subst (λ (u : Draft). 8_192 < roomOf (problemIn u .ranges)) (made .made) (ltb-true 8_192 (roomOf (rangeListOf s)) h);
+        room = subst (λ (u : Draft). 8_192 < roomOf (length (declaredIn trees)) (problemIn u .ranges)) (made .made) (subst (λ (k : ℕ). 8_192 < roomOf k (rangeListOf s)) many (ltb-true 8_192 (roomOf (length (s .declared)) (rangeListOf s)) h));
       }
 
   -- ---- the answer
   module _ (sound : verdict ≡ Sound) where
-    solves : Solves (rangeListOf s) (primitiveListOf s) (lengthListOf s) (literalListOf s) (pos deskBudget) (deskPoint s) deskWork (pointOf outcome (deskPoint s)) (cleared (roomOf (rangeListOf s)) deskWork) (answered deskBudget outcome)
+    solves : Solves (rangeListOf s) (primitiveListOf s) (lengthListOf s) (literalListOf s) (pos (length (s .declared))) (pos deskBudget) (deskPoint s) deskWork (pointOf outcome (deskPoint s)) (cleared (roomOf (length (s .declared)) (rangeListOf s)) deskWork) (answered deskBudget outcome)
     solves =
         record {
           result = ap₂ (λ (j : Judged) (b : Problem). resultOf j deskBudget (searchOf b deskBudget)) (sym sound) (sym (read-back s));
           point = ap₂ (λ (j : Judged) (b : Problem). unless j (pointOf (searchOf b deskBudget) (deskPoint s)) (deskPoint s)) (sym sound) (sym (read-back s));
-          work = ap (λ (j : Judged). unless j (cleared (roomOf (rangeListOf s)) deskWork) deskWork) (sym sound);
+          work = ap (λ (j : Judged). unless j (cleared (roomOf (length (s .declared)) (rangeListOf s)) deskWork) deskWork) (sym sound);
         }
 
     right : Right (problemIn s) deskBudget (answered deskBudget outcome .answer) (answered deskBudget outcome .sweeps) (pointOf outcome (deskPoint s))
@@ -157,9 +160,9 @@ module _ (t : List ℕ) (s : Draft) (e : outcomeOf t ≡ read s) where
 
   pub sheet-says : Kind t (solvedOf s)
   unfolding solvedOf
-  sheet-says = by (ltb 8_192 (roomOf (rangeListOf s))) refl
+  sheet-says = by (ltb 8_192 (roomOf (length (s .declared)) (rangeListOf s))) refl
     where
-      by : (b : Bool) → ltb 8_192 (roomOf (rangeListOf s)) ≡ b → Kind t (solvedOf s)
+      by : (b : Bool) → ltb 8_192 (roomOf (length (s .declared)) (rangeListOf s)) ≡ b → Kind t (solvedOf s)
       by true h =
           let r : verdict ≡ Refused Room = verdict-is ∙ rw h in
           rw r (inr (inr (inr (record { ground = 7; line = 0; whole = refl; met = inr (wide h) }))))

@@ -49,7 +49,7 @@ answer-short (Refused g) k ns zs = omega (arith, refused-short (refusalNumber g)
 solved-short : (s : Draft) → length (solvedOf s) ≤ 50 + 31 * length (s .names)
 unfolding solvedOf
 solved-short s =
-    let j = judged (rangeList (s .declared ++ s .made .ranges)) (primitiveList (s .made .primitives)) (lengthList (s .made .clauses)) (literalList (literalsIn (s .made .clauses))) (pos deskBudget) (deskPoint s) deskWork in
+    let j = judged (rangeList (s .declared ++ s .made .ranges)) (primitiveList (s .made .primitives)) (lengthList (s .made .clauses)) (literalList (literalsIn (s .made .clauses))) (pos (length (s .declared))) (pos deskBudget) (deskPoint s) deskWork in
     let o = searchOf (problemIn s) deskBudget in
     let r = resultOf j deskBudget o in
     answer-short (r .answer) (r .sweeps) (s .names) (unless j (pointOf o (deskPoint s)) (deskPoint s))

@@ -11,6 +11,8 @@ use lib.ListN.{take, length}
 use Rattle.whole.specs.Numbers.{M, minZ, maxZ, floorQ, ceilQ, rootIn, rootDown, rootUp, leastFrom, leastPower}
 use Rattle.whole.specs.Quoted.{numbers, rows}
 use Rattle.problem.specs.Problem.{Box, quantities}
+use Rattle.problem.specs.Lists.{primitivesOf}
+use Rattle.problem.specs.Leading.{made, definedFrom}
 use Rattle.problem.specs.Grounds.{anyNegative, total, badRanges, badPrimitives, badLiterals, judgeOf}
 use Rattle.problem.specs.declared.Primitive.{Primitive}
 use Rattle.problem.specs.declared.Primitive.the-variants.{Product, Square}
@@ -19,7 +21,7 @@ use Rattle.narrow.specs.Narrowing.{primitiveSteps, openOf}
 use Rattle.narrow.specs.Sweep.{allSteps, sweepOf}
 use Rattle.narrow.specs.Worked.{sameList, sameSwept}
 use Rattle.search.specs.Search.{Outcome, lowerPart, upperPart, searchOf, step, run, openFrom}
-use Rattle.search.specs.Depth.{depth, depthOf, roomOf}
+use Rattle.search.specs.Depth.{depth, roomOf}
 use Rattle.search.specs.Solve.{answered, pointOf, lows, judged}
 use Rattle.search.specs.declared.Answer.{Answer}
 use Rattle.search.specs.declared.Answer.the-variants as answer
@@ -68,8 +70,8 @@ pub data Case : Type 0 where
   prints : List String → List String → Case
   -- a sheet and its whole translation: range list, primitive list, clause lengths, literal list
   makes : List String → List ℤ → List ℤ → List ℤ → List ℤ → Case
-  -- a sheet's n, D and workspace
-  needs : List String → ℕ → ℕ → ℕ → Case
+  -- a sheet with a number of leading quantities: n, D and workspace
+  needs : List String → ℕ → ℕ → ℕ → ℕ → Case
 
 abbrev pub sheetPasses : (Draft → Bool) → grounds.Outcome → Bool
 sheetPasses f (grounds.refused g k) = false
@@ -94,10 +96,10 @@ passes (makes t rs ps ns ls) =
     && (sameList (lists.lengthList (s .made .clauses)) ns
     && sameList (lists.literalList (lists.literalsIn (s .made .clauses))) ls)))
     (grounds.outcomeOf (text t))
-passes (needs t n d room) =
+passes (needs t lead n d room) =
     sheetPasses
     (λ s.
-    eqb (quantities (problemIn s .ranges)) n && (eqb (depthOf (problemIn s .ranges)) d && eqb (roomOf (problemIn s .ranges)) room))
+    eqb (quantities (problemIn s .ranges)) n && (eqb (depth lead (problemIn s .ranges)) d && eqb (roomOf lead (problemIn s .ranges)) room))
     (grounds.outcomeOf (text t))
 
 abbrev pub allPass : List Case → Bool
@@ -126,8 +128,9 @@ every-sign =
 
 abbrev pub examples : List Case
 examples =
-    -- P1
-    needs first-sheet 6 27 336
+    -- P1, with its declared quantities leading, and with all
+    needs first-sheet 2 6 8 108
+    ∷ needs first-sheet 6 6 27 336
     ∷ answers first-sheet 100_000 answer.Found 6 (numbers "5 7")
     ∷ prints first-sheet ("FOUND 6" ∷ "w 5" ∷ "h 7" ∷ [])
     -- its quantities: w, h, w * h, 35, their difference, w - h
@@ -260,7 +263,7 @@ unfolding grounds.anyBadByte grounds.versionFrom grounds.versionOf grounds.first
 grounds-open = tt
 
 unfoldable outcome-open : Unit {0}
-unfolding grounds.readLines grounds.outcomeOf judged judgeOf anyNegative total badRanges badPrimitives badLiterals
+unfolding grounds.readLines grounds.outcomeOf judged judgeOf anyNegative total badRanges badPrimitives badLiterals primitivesOf made definedFrom
 outcome-open = tt
 
 unfoldable printed-open : Unit {0}

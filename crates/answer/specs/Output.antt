@@ -62,6 +62,10 @@ deskBudget = 100_000
 abbrev pub deskWork : List ℤ
 deskWork = replicate 8_192 (pos 0)
 
+-- the declared quantities lead
+abbrev pub deskLead : Draft → ℤ
+deskLead s = pos (length (s .declared))
+
 abbrev pub deskPoint : Draft → List ℤ
 deskPoint s = replicate (quantitiesIn s) (pos 0)
 
@@ -81,7 +85,7 @@ literalListOf s = literalList (literalsIn (s .made .clauses))
 -- the solve of an accepted sheet, with the filled fronts of the lists
 unfoldable pub solvedOf : Draft → List ℕ
 solvedOf s =
-    let j = judged (rangeListOf s) (primitiveListOf s) (lengthListOf s) (literalListOf s) (pos deskBudget) (deskPoint s) deskWork in
+    let j = judged (rangeListOf s) (primitiveListOf s) (lengthListOf s) (literalListOf s) (deskLead s) (pos deskBudget) (deskPoint s) deskWork in
     let o = searchOf (problemIn s) deskBudget in
     let r = resultOf j deskBudget o in
     answerLines (r .answer) (r .sweeps) (s .names) (unless j (pointOf o (deskPoint s)) (deskPoint s))

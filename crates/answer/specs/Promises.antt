@@ -29,13 +29,13 @@ Once = (t out₀ : List ℕ) (r r′ : ℕ) (out out′ : List ℕ) → Answers 
 abbrev pub OutputShort : Type 0
 OutputShort = (t : List ℕ) → length (outputOf t) ≤ 4_096
 
--- for every accepted sheet, budget and workspace: none, found and stopped hold for the sheet as written, in order of declaration
+-- for every accepted sheet, leading number, budget and workspace: none, found and stopped hold for the sheet as written, in order of declaration
 abbrev pub SheetAnswer : Type 0
 SheetAnswer =
     (t : List ℕ) (s : Draft) → outcomeOf t ≡ read s
-    → (budget : ℤ) (p₀ w₀ p w : List ℤ) (r : Solved)
-    → Solves (rangeListOf s) (primitiveListOf s) (lengthListOf s) (literalListOf s) budget p₀ w₀ p w r
-    → judged (rangeListOf s) (primitiveListOf s) (lengthListOf s) (literalListOf s) budget p₀ w₀ ≡ Sound
+    → (lead budget : ℤ) (p₀ w₀ p w : List ℤ) (r : Solved)
+    → Solves (rangeListOf s) (primitiveListOf s) (lengthListOf s) (literalListOf s) lead budget p₀ w₀ p w r
+    → judged (rangeListOf s) (primitiveListOf s) (lengthListOf s) (literalListOf s) lead budget p₀ w₀ ≡ Sound
     → (trees : List Line) × Spells t trees × Means (topIn t) trees (s .names) (r .answer) p
 
 -- document 01's examples P1 to P12 hold of the definitions

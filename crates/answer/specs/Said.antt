@@ -57,13 +57,13 @@ pub record SaysStop (t out : List ℕ) : Type 0 where
   pub printed : Prints "STOP" (declaredIn trees) values out
   pub floor : NoneObeysBefore (topIn t) trees (declaredIn trees) values
 
--- 7 at line 0: a sheet whose solve needs more than the workspace of 8,192 numbers
+-- 7 at line 0: a sheet whose solve, with D over the declared quantities, needs more than the workspace of 8,192 numbers
 pub record TooWide (t : List ℕ) (g k : ℕ) : Type 0 where
   pub ground : g ≡ 7
   pub line : k ≡ 0
   pub trees : List Line
   pub sheet : Sheet t trees
-  pub room : 8_192 < roomOf (problemIn (draftOf (topIn t) trees) .ranges)
+  pub room : 8_192 < roomOf (length (declaredIn trees)) (problemIn (draftOf (topIn t) trees) .ranges)
 
 -- REFUSED: that ground at that line
 pub record SaysRefused (t out : List ℕ) : Type 0 where

@@ -37,6 +37,7 @@ pub fn solve_ground(refusal: problem::Refusal) -> usize
         problem::Refusal::Literals => 5,
         problem::Refusal::Budget => 6,
         problem::Refusal::Room => 7,
+        problem::Refusal::Leading => 8,
     }
 }
 
@@ -102,7 +103,7 @@ fn report(out: &mut [u8], solved: Solved, names: &[u8], point: &[i64]) -> usize
     }
 }
 
-// Solves an accepted sheet, of which it gets the filled fronts of the lists, and writes the answer.
+// Solves an accepted sheet, of which it gets the filled fronts of the lists, with its declared quantities leading, and writes the answer.
 fn solved(
     out: &mut [u8],
     ranges: &[i64],
@@ -123,6 +124,7 @@ fn solved(
         primitives,
         lengths,
         literals,
+        declared as i64,
         BUDGET,
         &mut point[..n],
         &mut work,

@@ -4,7 +4,7 @@ use Rattle.bindings.specs.Calls.{solveNumbers, translateNumbers}
 use Rattle.bindings.specs.Promises.{SolveOnce, TranslateOnce, LineSpanOnce, AnswerOnce}
 
 pub solve-once : SolveOnce
-solve-once rs ps ns ls budget p₀ w₀ p w p′ w′ r r′ a b =
+solve-once rs ps ns ls lead budget p₀ w₀ p w p′ w′ r r′ a b =
     let s = a .solves in
     let t = b .solves in
     (a .numbers ∙ ap solveNumbers (s .result ∙ sym (t .result)) ∙ sym (b .numbers), s .point ∙ sym (t .point), s .work ∙ sym (t .work))

@@ -47,9 +47,9 @@ abbrev pub spanNumbers : Stretch → LineSpan
 spanNumbers s = record { start = s .start; end = s .end }
 
 -- the numbers of a solve's answer, which with the buffers is as `solve` promises
-pub record SolvesInC (rs ps ns ls : List ℤ) (budget : ℤ) (p₀ w₀ p w : List ℤ) (r : SolveNumbers) : Type 0 where
+pub record SolvesInC (rs ps ns ls : List ℤ) (lead budget : ℤ) (p₀ w₀ p w : List ℤ) (r : SolveNumbers) : Type 0 where
   pub solved : Solved
-  pub solves : Solves rs ps ns ls budget p₀ w₀ p w solved
+  pub solves : Solves rs ps ns ls lead budget p₀ w₀ p w solved
   pub numbers : r ≡ solveNumbers solved
 
 -- the numbers of a translation's answer, which with the lists is as `translate` promises

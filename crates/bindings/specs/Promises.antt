@@ -13,8 +13,8 @@ use Rattle.bindings.specs.declared.LineSpan.{LineSpan}
 -- `ularimpong_solve`: the numbers, the point buffer and the workspace
 abbrev pub SolveOnce : Type 0
 SolveOnce =
-    (rs ps ns ls : List ℤ) (budget : ℤ) (p₀ w₀ p w p′ w′ : List ℤ) (r r′ : SolveNumbers)
-    → SolvesInC rs ps ns ls budget p₀ w₀ p w r → SolvesInC rs ps ns ls budget p₀ w₀ p′ w′ r′ → (r ≡ r′) × (p ≡ p′) × (w ≡ w′)
+    (rs ps ns ls : List ℤ) (lead budget : ℤ) (p₀ w₀ p w p′ w′ : List ℤ) (r r′ : SolveNumbers)
+    → SolvesInC rs ps ns ls lead budget p₀ w₀ p w r → SolvesInC rs ps ns ls lead budget p₀ w₀ p′ w′ r′ → (r ≡ r′) × (p ≡ p′) × (w ≡ w′)
 
 -- `ularimpong_translate`: the numbers and every list
 abbrev pub TranslateOnce : Type 0

@@ -98,13 +98,23 @@ pub extern "C" fn ularimpong_solve(
     primitives: &[i64],
     lengths: &[i64],
     literals: &[i64],
+    leading: i64,
     budget: i64,
     point: &mut [i64],
     work: &mut [i64],
 ) -> SolveNumbers
-    ensures { λ r. ⌜ SolvesInC (now (ranges .entry)) (now (primitives .entry)) (now (lengths .entry)) (now (literals .entry)) budget (now (point .entry)) (now (work .entry)) (now (point .exit)) (now (work .exit)) r ⌝ }
+    ensures { λ r. ⌜ SolvesInC (now (ranges .entry)) (now (primitives .entry)) (now (lengths .entry)) (now (literals .entry)) leading budget (now (point .entry)) (now (work .entry)) (now (point .exit)) (now (work .exit)) r ⌝ }
 {
-    solve_numbers(search::solve(ranges, primitives, lengths, literals, budget, point, work))
+    solve_numbers(search::solve(
+        ranges,
+        primitives,
+        lengths,
+        literals,
+        leading,
+        budget,
+        point,
+        work,
+    ))
 }
 
 // Translates a sheet into a problem.

@@ -1,5 +1,6 @@
--- What is accepted fits the caller's lists and fits the solver's grounds 1 to 5: each line left room, and as the lowest values have helpers in every range, no range is empty.
+-- What is accepted fits the caller's lists and fits the solver's grounds 1 to 5 and 8: each line left room, and as the lowest values have helpers in every range, no range is empty.
 use mathlib.Core.Path.{_≡_, sym, ap, subst, _∙_}
+use mathlib.Core.Bool.{false}
 use mathlib.Core.List.{List, [], _∷_, _++_}
 use Prim.Native.Nat.{ℕ, suc, _<_, _≤_}
 use native.Mathlib.Omega.{arith}
@@ -13,6 +14,7 @@ use Rattle.whole.proofs.Kit.{ints}
 use Rattle.problem.specs.Problem.{lowAt, highAt, rangeAt, Inside}
 use Rattle.problem.specs.Lists.{problemOf}
 use Rattle.problem.specs.Grounds.{judgeOf}
+use Rattle.problem.specs.Leading.{badLeading}
 use Rattle.problem.specs.declared.Judged.the-variants.{Sound}
 use Rattle.meaning.specs.Lists.{rangeList, primitiveList, lengthList, literalList, literalsIn}
 use Rattle.meaning.specs.Plain.{placeOf}
@@ -26,8 +28,9 @@ use Rattle.meaning.proofs.Pieces.{Within}
 use Rattle.meaning.proofs.Faultless.{text-read}
 use Rattle.meaning.proofs.Demand3.{values}
 use Rattle.meaning.proofs.NamedQuantities.{Known, Good}
+use Rattle.meaning.proofs.HelpersDefined.{AllDefined}
 use Rattle.meaning.proofs.LinesFit.{Ordered, NearEnds, top-near, room-read}
-use Rattle.meaning.proofs.SolverGrounds.{sound}
+use Rattle.meaning.proofs.SolverGrounds.{sound, leads}
 
 -- ---- no range is empty
 ordered-all : (p : Point) (k : ℕ) (rs : List Range) → Within p k rs → AllOf Ordered rs
@@ -63,6 +66,7 @@ pub record Passes (s : Draft) : Type 0 where
   pub near : AllOf NearEnds (s .declared ++ s .made .ranges)
   pub known : AllOf (Known (quantitiesIn s)) (s .made .primitives)
   pub good : AllOf (Good (quantitiesIn s)) (literalsIn (s .made .clauses))
+  pub defined : AllDefined (length (s .declared)) (s .made)
 
 pub fits : (t : List ℕ) (s : Draft) → outcomeOf t ≡ read s → Passes s
 fits t s e =
@@ -85,6 +89,7 @@ fits t s e =
       near = all-join NearEnds (s .declared) (s .made .ranges) (h .near) (h .near-made);
       known = h .known;
       good = h .good;
+      defined = h .defined;
     }
 
 -- as lists of full size see it
@@ -119,6 +124,12 @@ accepted-sound t s e =
       known = rw n (f .known);
       good = rw n (f .good);
     })
+
+-- nor 8
+pub accepted-leads : (t : List ℕ) (s : Draft) → outcomeOf t ≡ read s → badLeading (rangeList (s .declared ++ s .made .ranges)) (primitiveList (s .made .primitives)) (pos (length (s .declared))) ≡ false
+accepted-leads t s e =
+    let f = fits t s e in
+    leads (s .declared) (s .made .ranges) (s .made .primitives) (f .defined) (omega (arith, f .some, f .many))
 
 -- the four lists read back give the problem
 pub read-back : (s : Draft) → problemOf (rangeList (s .declared ++ s .made .ranges)) (primitiveList (s .made .primitives)) (lengthList (s .made .clauses)) (literalList (literalsIn (s .made .clauses))) ≡ problemIn s

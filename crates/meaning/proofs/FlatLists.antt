@@ -100,7 +100,7 @@ module _ (p : Point) (xs : List Range) (n : ℕ) (e : n ≡ length xs) where
   each-inside h = record { each = λ q l. rw (range-at xs q) (rw zero-add at (each-at (λ q r. In r (p q)) xs (range (pos 0) (pos 0)) 0 q (omega arith) h)) }
 
 -- ---- lists of numbers read back
-primitives-round : (ps : List Primitive) → primitivesOf (primitiveList ps) ≡ ps
+pub primitives-round : (ps : List Primitive) → primitivesOf (primitiveList ps) ≡ ps
 unfolding primitivesOf primitiveList
 primitives-round [] = refl
 primitives-round (Sum z x y ∷ ps) = ap (λ (r : List Primitive). Sum z x y ∷ r) (primitives-round ps)

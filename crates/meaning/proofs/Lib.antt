@@ -20,6 +20,7 @@ pub mod RuleAsks
 pub mod RuleSizes
 pub mod Extension
 pub mod NamedQuantities
+pub mod HelpersDefined
 -- line by line: the grounds that are not met, and what is carried on
 pub mod Faultless
 pub mod LineInduction

@@ -1,6 +1,6 @@
--- Each line without a fault leaves room: at most 128 quantities, ends within plus or minus M, names that differ, and small lists that name what there is.
-use mathlib.Core.Path.{_≡_, refl, subst}
-use mathlib.Core.Bool.{Bool, true, false, cond, _||_}
+-- Each line without a fault leaves room: at most 128 quantities, ends within plus or minus M, names that differ, small lists that name what there is, and helpers that are defined.
+use mathlib.Core.Path.{_≡_, refl, sym, subst}
+use mathlib.Core.Bool.{Bool, true, false, cond, _||_, true≢false}
 use mathlib.Core.List.{List, [], _∷_}
 use Prim.Native.Nat.{ℕ, _<_, _≤_}
 use native.Mathlib.Omega.{arith}
@@ -17,7 +17,7 @@ use Rattle.problem.specs.Grounds.{beyond}
 use Rattle.sheet.specs.Tokens.{tokensOf}
 use Rattle.sheet.specs.Grammar.{Line, ranged, default, must, when, spellLine}
 use Rattle.meaning.specs.Plain.{isIn, asksOf}
-use Rattle.meaning.specs.Translation.{gaps, ruleOf}
+use Rattle.meaning.specs.Translation.{nothing, gaps, ruleOf}
 use Rattle.meaning.specs.Lists.{literalsIn}
 use Rattle.meaning.specs.Draft.{Draft, blank, quantitiesIn, declare, rule, after}
 use Rattle.meaning.specs.Grounds.{topOf, anyBeyond, read, readLines}
@@ -33,6 +33,7 @@ use Rattle.meaning.proofs.RangeLimits.{range-near}
 use Rattle.meaning.proofs.DefinitionSteps.{rule-quantities, rule-ranges}
 use Rattle.meaning.proofs.RuleSizes.{Small, small-none, small-rule, small-join}
 use Rattle.meaning.proofs.NamedQuantities.{Known, known-more, Good, good-more, rule-known, rule-good}
+use Rattle.meaning.proofs.HelpersDefined.{AllDefined, defined-join, rule-defined}
 
 abbrev pub Ordered : Range → Type 0
 Ordered r = r .low ≤ℤ r .high
@@ -50,6 +51,9 @@ pub record Room (s : Draft) : Type 0 where
   pub small : Small (s .made)
   pub known : AllOf (Known (quantitiesIn s)) (s .made .primitives)
   pub good : AllOf (Good (quantitiesIn s)) (literalsIn (s .made .clauses))
+  -- no rule before the last range line, so each helper keeps its number
+  pub fresh : s .ruled ≡ false → s .made ≡ nothing
+  pub defined : AllDefined (length (s .declared)) (s .made)
 
 not-beyond : (z : ℤ) → beyond z ≡ false → Near z
 not-beyond z e = let h = either-off (ltZ z minusM) (ltZ M z) e in record { low = omega (ints, h .0); high = omega (ints, h .1) }
@@ -75,11 +79,13 @@ room-blank =
       small = small-none;
       known = tt;
       good = tt;
+      fresh = λ e. refl;
+      defined = tt;
     }
 
 module _ (s : Draft) (h : Room s) where
-  room-declare : (n : ℕ) (r : Range) → isIn (s .names) n ≡ false → Ordered r → NearEnds r → quantitiesIn (declare s n r) ≤ 128 → Room (declare s n r)
-  room-declare n r new o e few =
+  room-declare : (n : ℕ) (r : Range) → s .ruled ≡ false → isIn (s .names) n ≡ false → Ordered r → NearEnds r → quantitiesIn (declare s n r) ≤ 128 → Room (declare s n r)
+  room-declare n r free new o e few =
       let l = length-append (s .declared) (r ∷ []) in
       let m : quantitiesIn s ≤ quantitiesIn (declare s n r) = omega (arith, l) in
       record {
@@ -92,6 +98,8 @@ module _ (s : Draft) (h : Room s) where
         small = h .small;
         known = all-map (Known (quantitiesIn s)) (Known (quantitiesIn (declare s n r))) (s .made .primitives) (known-more (quantitiesIn s) (quantitiesIn (declare s n r)) m) (h .known);
         good = all-map (Good (quantitiesIn s)) (Good (quantitiesIn (declare s n r))) (literalsIn (s .made .clauses)) (good-more (quantitiesIn s) (quantitiesIn (declare s n r)) m) (h .good);
+        fresh = h .fresh;
+        defined = subst (AllDefined (length (declare s n r .declared))) (sym (h .fresh free)) tt;
       }
 
   room-rule : (l : Line) → Named (length (s .names)) (asksOf (s .names) l) → 0 < length (asksOf (s .names) l) → anyBeyond (gaps (s .declared) (quantitiesIn s) (asksOf (s .names) l) .ranges) ≡ false → quantitiesIn (rule s l) ≤ 128 → Room (rule s l)
@@ -118,15 +126,17 @@ module _ (s : Draft) (h : Room s) where
             (all-join (Good m) (literalsIn (s .made .clauses)) (literalsIn (piece .clauses))
             (all-map (Good k) (Good m) (literalsIn (s .made .clauses)) (good-more k m (omega arith)) (h .good))
             (rule-good d m k asked (omega arith)));
+        fresh = λ e. absurd (true≢false e);
+        defined = defined-join (length d) k (s .made) piece refl (h .defined) (rule-defined d (length d) k asked (omega arith) u);
       }
 
 -- a line more
 pub room-after : (top : ℕ) → top ≤ 1_000_000_000_000 → (s : Draft) (t : List ℕ) (l : Line) → Room s → tokensOf t ≡ spellLine l → Faultless top s l → Room (after top s l)
 unfolding after asksOf
 room-after top m s t (ranged n low high) h e f =
-    let o = f .order in room-declare s h n (range low high) (f .names) (omega ints) (range-near t n low high e) (f .few)
+    let o = f .order in room-declare s h n (range low high) (f .late) (f .names) (omega ints) (range-near t n low high e) (f .few)
 room-after top m s t (default n) h e f =
-    room-declare s h n (range (pos 0) (pos top)) (f .names) (omega ints) (record { low = omega ints; high = omega ints }, record { low = omega ints; high = omega ints }) (f .few)
+    room-declare s h n (range (pos 0) (pos top)) (f .late) (f .names) (omega ints) (record { low = omega ints; high = omega ints }, record { low = omega ints; high = omega ints }) (f .few)
 room-after top m s t (must d ds) h e f = room-rule s h (must d ds) (line-named s (must d ds) (f .names)) (omega arith) (f .near) (f .few)
 room-after top m s t (when c cs d ds) h e f = room-rule s h (when c cs d ds) (line-named s (when c cs d ds) (f .names)) (omega arith) (f .near) (f .few)
 

@@ -42,7 +42,7 @@ good-more n m l (literal.AtMost q c) h = (omega arith, h .1)
 good-more n m l (literal.AtLeast q c) h = (omega arith, h .1)
 
 -- ---- n declared quantities, k at least n, and m at least what there is at the end
-place-known : (n m k : ℕ) (t : Tree) → n ≤ k → k + sizeOf t ≤ m → n ≤ m → Names n t → placeIn k t < m
+pub place-known : (n m k : ℕ) (t : Tree) → n ≤ k → k + sizeOf t ≤ m → n ≤ m → Names n t → placeIn k t < m
 unfolding opened
 place-known n m k (constant i) h l j u = omega arith
 place-known n m k (quantity q) h l j u = omega arith

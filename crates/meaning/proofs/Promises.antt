@@ -1,5 +1,5 @@
 -- The promises: each hands its statement to the law that has it.
-use Rattle.meaning.specs.Promises.{Grounds, GroundsBack, Demand3, Values, Fitting, AcceptedSound, ReadBack, LettersBack}
+use Rattle.meaning.specs.Promises.{Grounds, GroundsBack, Demand3, Values, Fitting, AcceptedSound, AcceptedLeads, ReadBack, LettersBack}
 use Rattle.meaning.proofs.TextGrounds as text
 use Rattle.meaning.proofs.Demand3 as demand
 use Rattle.meaning.proofs.Fits as accepted
@@ -22,6 +22,9 @@ fits = accepted.room
 
 pub accepted-sound : AcceptedSound
 accepted-sound = accepted.accepted-sound
+
+pub accepted-leads : AcceptedLeads
+accepted-leads = accepted.accepted-leads
 
 pub read-back : ReadBack
 read-back = accepted.read-back

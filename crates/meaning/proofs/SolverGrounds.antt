@@ -1,29 +1,35 @@
--- Lists that are made of ranges, primitives and literals which name what there is pass grounds 1 to 5: test by test.
-use mathlib.Core.Path.{_≡_, refl, ap}
-use mathlib.Core.Bool.{false, not}
-use mathlib.Core.List.{List, [], _∷_}
-use Prim.Native.Nat.{ℕ, _*_, _%_, _<_, _≤_}
+-- Lists that are made of ranges, primitives and literals which name what there is pass grounds 1 to 5, and 8 where each helper is defined: test by test.
+use mathlib.Core.Path.{_≡_, refl, sym, ap, subst, _∙_}
+use mathlib.Core.Bool.{true, false, not, _||_, or-true}
+use mathlib.Core.Logic.{inl, inr}
+use mathlib.Core.List.{List, [], _∷_, _++_}
+use Prim.Native.Nat.{ℕ, zero, suc, _+_, _-_, _*_, _%_, _<_, _≤_}
 use native.Mathlib.Omega.{arith}
 use lib.Dec.{eqb, ltb}
 use lib.ListN.{length, length-append}
+use lib.Seq.{getD-append-add}
 use lib.IntN.{ℤ, pos}
 use lib.Signed.{ltZ, leZ, _≤ℤ_}
 use borrow.Author.Tests.{le-ltb, eq-eqb, ne-eqb}
-use Rattle.whole.specs.Lists.{AllOf}
+use Rattle.whole.specs.Lists.{AllOf, OneOf}
 use Rattle.whole.specs.Numbers.{M, minusM, Near}
+use Rattle.whole.specs.Ranges.{range}
 use Rattle.whole.specs.declared.Range.{Range}
 use Rattle.whole.proofs.Kit.{ints}
-use Rattle.problem.specs.Problem.{quantities}
+use Rattle.problem.specs.Problem.{Box, lowAt, highAt, rangeAt, quantities}
 use Rattle.problem.specs.Grounds.{beyond, missing, badQuantities, anyNegative, total, badLists, badRange, badRanges, badPrimitive, badPrimitives, badLiteral, badLiterals, judgeOf}
+use Rattle.problem.specs.Leading.{makes, made, defined, definedFrom, badLeading}
 use Rattle.problem.specs.declared.Primitive.{Primitive}
 use Rattle.problem.specs.declared.Primitive.the-variants.{Sum, Product, Square}
 use Rattle.problem.specs.declared.Literal.{Literal}
 use Rattle.problem.specs.declared.Literal.the-variants.{AtMost, AtLeast}
 use Rattle.problem.specs.declared.Judged.the-variants.{Sound}
 use Rattle.meaning.specs.Lists.{rangeList, primitiveList, lengthList, literalList, literalsIn}
+use Rattle.meaning.proofs.Elements.{Each, each-at}
 use Rattle.meaning.proofs.Tests.{both-off}
-use Rattle.meaning.proofs.FlatLists.{ranges-length, primitives-length, lengths-length, literals-length, quantities-is}
+use Rattle.meaning.proofs.FlatLists.{ranges-length, primitives-length, lengths-length, literals-length, quantities-is, range-at, primitives-round}
 use Rattle.meaning.proofs.NamedQuantities.{Known, Good}
+use Rattle.meaning.proofs.HelpersDefined.{Defined}
 use Rattle.meaning.proofs.LinesFit.{Ordered, NearEnds}
 
 near-fine : (z : ℤ) → Near z → beyond z ≡ false
@@ -97,6 +103,40 @@ literals-fine n (AtMost q c ∷ ls) h =
     both-off (badLiteral n (pos q) (pos 0) c) (badLiterals n (literalList ls)) (both-off (missing n (pos q)) _ (there n q (h .0 .0)) (near-fine c (h .0 .1))) (literals-fine n ls (h .1))
 literals-fine n (AtLeast q c ∷ ls) h =
     both-off (badLiteral n (pos q) (pos 1) c) (badLiterals n (literalList ls)) (both-off (missing n (pos q)) _ (there n q (h .0 .0)) (near-fine c (h .0 .1))) (literals-fine n ls (h .1))
+
+-- ---- 8
+made-one : (ps : List Primitive) (q : ℕ) → OneOf (λ e. makes e q ≡ true) ps → made ps q ≡ true
+unfolding made
+made-one (p ∷ ps) q (inl h) = rw h
+made-one (p ∷ ps) q (inr h) = rw (made-one ps q h, or-true (makes p q))
+
+module _ (b : Box) (ps : List Primitive) where
+  defined-is : (q : ℕ) → Defined ps q (rangeAt b q) → defined b ps q ≡ true
+  defined-is q (inl h) = let f : ltZ (lowAt b q) (highAt b q) ≡ false = omega ints in rw f
+  defined-is q (inr h) = rw (made-one ps q h, or-true (not (ltZ (lowAt b q) (highAt b q))))
+
+  all-defined : (k q : ℕ) → ((i : ℕ) → i < k → Defined ps (q + i) (rangeAt b (q + i))) → definedFrom b ps k q ≡ true
+  unfolding definedFrom
+  all-defined zero q h = refl
+  all-defined (suc k) q h =
+      rw (defined-is q (subst (λ (j : ℕ). Defined ps j (rangeAt b j)) (omega arith) (h 0 (omega arith))))
+      (all-defined k (suc q) (λ i l. subst (λ (j : ℕ). Defined ps j (rangeAt b j)) (omega arith) (h (suc i) (omega arith))))
+
+-- ranges d first, then those of helpers, each of them defined
+module _ (d rs : List Range) (ps : List Primitive) (h : Each (Defined ps) (length d) rs) where
+  helper-at : (i : ℕ) → i < length rs → Defined ps (length d + i) (rangeAt (rangeList (d ++ rs)) (length d + i))
+  helper-at i l =
+      subst (Defined ps (length d + i)) (sym (range-at (d ++ rs) (length d + i) ∙ getD-append-add d rs i (range (pos 0) (pos 0))))
+      (each-at (Defined ps) rs (range (pos 0) (pos 0)) (length d) i l h)
+
+  pub leads : 0 < length d → badLeading (rangeList (d ++ rs)) (primitiveList ps) (pos (length d)) ≡ false
+  leads some =
+      let b = rangeList (d ++ rs) in
+      let many : quantities b ≡ length d + length rs = quantities-is (d ++ rs) ∙ length-append d rs in
+      let later : quantities b - length d ≡ length rs = omega arith in
+      both-off (ltZ (pos (length d)) (pos 1) || ltZ (pos (quantities b)) (pos (length d))) _
+      (both-off (ltZ (pos (length d)) (pos 1)) (ltZ (pos (quantities b)) (pos (length d))) (omega ints) (omega ints))
+      (rw (primitives-round ps, later, all-defined b ps (length rs) (length d) helper-at))
 
 pub record Sane (rs : List Range) (ps : List Primitive) (cs : List (List Literal)) : Type 0 where
   pub some : 0 < length rs

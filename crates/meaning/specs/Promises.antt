@@ -1,7 +1,9 @@
 -- What is promised of a translation, one statement each; the theorems stand in proofs/Promises.antt.
 use mathlib.Core.Path.{_≡_}
+use mathlib.Core.Bool.{false}
 use mathlib.Core.List.{List, _++_}
 use Prim.Native.Nat.{ℕ, _-_}
+use lib.IntN.{pos}
 use lib.ListN.{length, replicate}
 use Rattle.whole.specs.Lists.{AllOf}
 use Rattle.whole.specs.Ranges.{Point}
@@ -9,6 +11,7 @@ use Rattle.problem.specs.Problem.{Inside, Holds}
 use Rattle.problem.specs.Order.{Alike}
 use Rattle.problem.specs.Lists.{problemOf}
 use Rattle.problem.specs.Grounds.{judgeOf}
+use Rattle.problem.specs.Leading.{badLeading}
 use Rattle.problem.specs.declared.Judged.the-variants.{Sound}
 use Rattle.sheet.specs.Text.{word}
 use Rattle.sheet.specs.Tokens.{tokenOf}
@@ -53,6 +56,12 @@ AcceptedSound =
     (t : List ℕ) (s : Draft) → outcomeOf t ≡ read s
     → judgeOf (rangeList (s .declared ++ s .made .ranges)) (primitiveList (s .made .primitives))
     (lengthList (s .made .clauses)) (literalList (literalsIn (s .made .clauses))) ≡ Sound
+
+-- nor by 8, its declared quantities being the leading ones
+abbrev pub AcceptedLeads : Type 0
+AcceptedLeads =
+    (t : List ℕ) (s : Draft) → outcomeOf t ≡ read s
+    → badLeading (rangeList (s .declared ++ s .made .ranges)) (primitiveList (s .made .primitives)) (pos (length (s .declared))) ≡ false
 
 -- and read back they are its problem
 abbrev pub ReadBack : Type 0

@@ -9,6 +9,7 @@ pub mod Products
 pub mod Promises
 pub mod Quotients
 pub mod Reading
+pub mod Results
 pub mod Rounding
 pub mod Rooted
 pub mod Squares

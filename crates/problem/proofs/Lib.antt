@@ -5,3 +5,5 @@ pub mod Scanning
 pub mod Reading
 pub mod Placing
 pub mod Unmet
+pub mod Defining
+pub mod Defined

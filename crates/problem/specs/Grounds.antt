@@ -1,7 +1,9 @@
 -- Grounds 1 to 5 of document 01's "What a solve gives back", over lists of any numbers.
+use mathlib.Core.Path.{_≡_}
 use mathlib.Core.Bool.{Bool, false, not, cond, _||_}
 use mathlib.Core.List.{List, [], _∷_}
-use Prim.Native.Nat.{ℕ, _*_, _%_, _<_}
+use mathlib.Core.Logic.{_⊎_}
+use Prim.Native.Nat.{ℕ, _%_, _<_}
 use lib.Dec.{eqb, ltb}
 use lib.ListN.{length}
 use lib.IntN.{ℤ, pos, _+ℤ_, _*ℤ_}
@@ -9,7 +11,7 @@ use lib.Signed.{ltZ, leZ}
 use Rattle.whole.specs.Numbers.{M, minusM}
 use Rattle.problem.specs.Problem.{quantities}
 use Rattle.problem.specs.declared.Refusal.{Refusal}
-use Rattle.problem.specs.declared.Refusal.the-variants.{Quantities, Lists, Ranges, Primitives, Literals, Budget, Room}
+use Rattle.problem.specs.declared.Refusal.the-variants.{Quantities, Lists, Ranges, Primitives, Literals, Budget, Room, Leading}
 use Rattle.problem.specs.declared.Judged.{Judged}
 use Rattle.problem.specs.declared.Judged.the-variants.{Sound, Refused}
 
@@ -104,8 +106,14 @@ refusalNumber Primitives = 4
 refusalNumber Literals = 5
 refusalNumber Budget = 6
 refusalNumber Room = 7
+refusalNumber Leading = 8
 
 -- a ground is met, and none with a lower number
 pub record FirstMet (Met : ℕ → Type 0) (g : ℕ) : Type 0 where
   pub met : Met g
   pub none-lower : (h : ℕ) → h < g → Met h → ⊥
+
+-- g is the first in this order that is met
+abbrev pub FirstOf : List ℕ → (ℕ → Type 0) → ℕ → Type 0
+FirstOf [] Met g = ⊥
+FirstOf (h ∷ hs) Met g = ((g ≡ h) × Met h) ⊎ ((Met h → ⊥) × FirstOf hs Met g)

@@ -1,8 +1,10 @@
 // What a problem is: lists of numbers, read as primitives and literals, and judged by grounds 1 to 5.
 // Every function of this crate is inner: only our own crates call it.
+pub mod leading;
+
 ghost use mathlib.Core.Bool.{_||_};
 ghost use mathlib.Core.Path.{_≡_};
-ghost use Prim.Native.Nat.{ℕ, _≤_};
+ghost use Prim.Native.Nat.{_≤_};
 ghost use lib.ListN.{length};
 ghost use lib.IntN.{pos, _*ℤ_};
 ghost use Rattle.problem.specs.Grounds.{differ, beyond, missing, badQuantities, anyNegative, total, badLists, badRange, badRanges, badPrimitive, badPrimitives, badLiteral, badLiterals, judgeOf};
@@ -21,7 +23,7 @@ pub enum Literal {
     AtLeast { quantity: usize, bound: i64 },
 }
 
-// The grounds on which a solve is refused, 1 to 7.
+// The grounds on which a solve is refused, 1 to 8.
 pub enum Refusal {
     Quantities,
     Lists,
@@ -30,6 +32,7 @@ pub enum Refusal {
     Literals,
     Budget,
     Room,
+    Leading,
 }
 
 // What the lists are judged.

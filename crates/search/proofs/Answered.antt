@@ -2,6 +2,7 @@
 -- Demand2.antt with document 01's sweep and choice; the counts are laws of the run alone.
 use mathlib.Core.Path.{_≡_, refl, sym, ap, _∙_}
 use mathlib.Core.Logic.{⊎-elim}
+use mathlib.Core.Bool.{false}
 use mathlib.Core.List.{List, []}
 use Prim.Native.Nat.{ℕ, _-_, _≤_}
 use native.Mathlib.Omega.{arith}
@@ -12,12 +13,13 @@ use Rattle.whole.specs.Ranges.{Point}
 use Rattle.problem.specs.Problem.{Box, quantities, Satisfies}
 use Rattle.problem.specs.Lists.{primitivesOf, literalsOf, clausesOf, problemOf}
 use Rattle.problem.specs.Grounds.{judgeOf}
+use Rattle.problem.specs.Leading.{badLeading}
 use Rattle.problem.specs.declared.Refusal.{Refusal}
 use Rattle.problem.specs.declared.Judged.the-variants.{Sound, Refused}
 use Rattle.narrow.specs.Sweep.{sweepOf}
 use Rattle.narrow.specs.Parts.{Part}
 use Rattle.search.specs.Search.{Outcome, stopped, found, none, waitingOf, lowest, searchOf}
-use Rattle.search.specs.Depth.{depthOf, roomOf}
+use Rattle.search.specs.Depth.{depth, roomOf}
 use Rattle.search.specs.Solve.{judged, lows, answered, pointOf, cleared, Solves}
 use Rattle.search.specs.Demand2.{pointAt, NoneBefore, Smallest, Decides, Right}
 use Rattle.search.specs.inner.Laws.{Lawful}
@@ -28,6 +30,7 @@ use Rattle.search.proofs.Run.{never, boxesOf, leftOf, not-yet, steady-a
 use Rattle.search.proofs.Demand2.{Stack, stack, Means, demand2}
 use Rattle.search.proofs.Judged.{judges, accepted}
 use Rattle.search.proofs.Instance.{start-part, Meets, sweep-lawful, sweep-sound, sweep-ordered}
+use Rattle.search.proofs.Leads.{sweep-leads}
 
 module _ (rs ps ns ls : List ℤ) (sound : judgeOf rs ps ns ls ≡ Sound) (k : ℕ) where
   start : Part (quantities rs) rs rs
@@ -41,15 +44,6 @@ module _ (rs ps ns ls : List ℤ) (sound : judgeOf rs ps ns ls ≡ Sound) (k : �
 
   boxes : Stack (quantities rs) (quantities rs) rs (boxesOf (searchOf (problemOf rs ps ns ls) k))
   boxes = stack law start k
-
-  -- never more than D boxes wait
-  pub room : length (waitingOf (searchOf (problemOf rs ps ns ls) k)) ≤ depthOf rs
-  room = by (searchOf (problemOf rs ps ns ls) k) boxes
-    where
-      by : (o : Outcome) → Stack (quantities rs) (quantities rs) rs (boxesOf o) → length (waitingOf o) ≤ depthOf rs
-      by (stopped c ws) s = omega (arith, s .1)
-      by (found c ws left) s = omega (arith, s .1)
-      by (none left) s = omega arith
 
   -- none: no point of the starting box satisfies everything
   none-right : {left : ℕ} → searchOf (problemOf rs ps ns ls) k ≡ none left → (x : Point) → Satisfies (problemOf rs ps ns ls) x → ⊥
@@ -138,20 +132,29 @@ module _ (rs ps ns ls : List ℤ) (sound : judgeOf rs ps ns ls ≡ Sound) (k : �
         whole = λ a. never (cc);
       }
 
+-- never more than D boxes wait
+pub room : (rs ps ns ls : List ℤ) (lead : ℤ) → judgeOf rs ps ns ls ≡ Sound → badLeading rs ps lead ≡ false → (k : ℕ) → length (waitingOf (searchOf (problemOf rs ps ns ls) k)) ≤ depth (positivePart lead) rs
+room rs ps ns ls lead sound g k = by (searchOf (problemOf rs ps ns ls) k) (stack (sweep-leads rs ps ns ls (judges rs ps ns ls sound) lead g) (start rs ps ns ls sound k) k)
+  where
+    by : (o : Outcome) → Stack (quantities rs) (positivePart lead) rs (boxesOf o) → length (waitingOf o) ≤ depth (positivePart lead) rs
+    by (stopped c ws) s = omega (arith, s .1)
+    by (found c ws left) s = omega (arith, s .1)
+    by (none left) s = omega arith
+
 -- what a solve of a problem that is not refused gives back is right for the problem
-pub sound-right : {rs ps ns ls : List ℤ} {budget : ℤ} {p₀ w₀ p w : List ℤ} {r : Solved} → Solves rs ps ns ls budget p₀ w₀ p w r → judged rs ps ns ls budget p₀ w₀ ≡ Sound
+pub sound-right : {rs ps ns ls : List ℤ} {lead budget : ℤ} {p₀ w₀ p w : List ℤ} {r : Solved} → Solves rs ps ns ls lead budget p₀ w₀ p w r → judged rs ps ns ls lead budget p₀ w₀ ≡ Sound
     → Right (problemOf rs ps ns ls) (positivePart budget) (r .answer) (r .sweeps) p
-sound-right {rs} {ps} {ns} {ls} {budget} {p₀} {w₀} {p} {w} {r} s e =
+sound-right {rs} {ps} {ns} {ls} {lead} {budget} {p₀} {w₀} {p} {w} {r} s e =
     rw (rw e at (s .result), rw e at (s .point))
-    (right-of rs ps ns ls (accepted rs ps ns ls budget p₀ w₀ e .judge) (positivePart budget) p₀ (searchOf (problemOf rs ps ns ls) (positivePart budget)) refl)
+    (right-of rs ps ns ls (accepted rs ps ns ls lead budget p₀ w₀ e .judge) (positivePart budget) p₀ (searchOf (problemOf rs ps ns ls) (positivePart budget)) refl)
 
 -- a refusal gives its ground and sweep count 0, and leaves point buffer and workspace as they came
-pub refused-as : {rs ps ns ls : List ℤ} {budget : ℤ} {p₀ w₀ p w : List ℤ} {r : Solved} → (g : Refusal) → Solves rs ps ns ls budget p₀ w₀ p w r → judged rs ps ns ls budget p₀ w₀ ≡ Refused g
+pub refused-as : {rs ps ns ls : List ℤ} {lead budget : ℤ} {p₀ w₀ p w : List ℤ} {r : Solved} → (g : Refusal) → Solves rs ps ns ls lead budget p₀ w₀ p w r → judged rs ps ns ls lead budget p₀ w₀ ≡ Refused g
     → (r ≡ record { answer = answer.Refused g; sweeps = 0 }) × (p ≡ p₀) × (w ≡ w₀)
 refused-as g s e = (rw e at (s .result), rw e at (s .point), rw e at (s .work))
 
 -- where none is met, none leaves the point buffer as it came, and the first numbers of the workspace are 0
-module _ {rs ps ns ls : List ℤ} {budget : ℤ} {p₀ w₀ p w : List ℤ} {r : Solved} (s : Solves rs ps ns ls budget p₀ w₀ p w r) (e : judged rs ps ns ls budget p₀ w₀ ≡ Sound) where
+module _ {rs ps ns ls : List ℤ} {lead budget : ℤ} {p₀ w₀ p w : List ℤ} {r : Solved} (s : Solves rs ps ns ls lead budget p₀ w₀ p w r) (e : judged rs ps ns ls lead budget p₀ w₀ ≡ Sound) where
   pub none-leaves : r .answer ≡ answer.None → p ≡ p₀
   none-leaves a = rw e at (s .point) ∙ by (searchOf (problemOf rs ps ns ls) (positivePart budget)) (sym (ap (λ (x : Solved). x .answer) (rw e at (s .result))) ∙ a)
     where
@@ -160,5 +163,5 @@ module _ {rs ps ns ls : List ℤ} {budget : ℤ} {p₀ w₀ p w : List ℤ} {r :
       by (found c ws left) a = never (cc)
       by (none left) a = refl
 
-  pub work-cleared : w ≡ cleared (roomOf rs) w₀
+  pub work-cleared : w ≡ cleared (roomOf (positivePart lead) rs) w₀
   work-cleared = rw e at (s .work)

@@ -4,7 +4,7 @@ use mathlib.Core.List.{[], _∷_}
 use mathlib.Core.Bool.{Bool, true, false}
 use Prim.Native.Nat.{ℕ, zero, suc, _+_, _-_, _*_, _≤_, _<_}
 use native.Mathlib.Omega.{arith}
-use native.Mathlib.Decide.{ℕ-discrete}
+use native.Mathlib.Decide.{ℕ-discrete, decLt}
 use native.Mathlib.Numerals.{add-one}
 use lib.ListN.{length}
 use lib.IntN.{ℤ}
@@ -54,6 +54,21 @@ module _ {n : ℕ} {b : Box} (f : Part n b b) where
 
   pub lowest-closed : lowest n b ≡ Closed → (q : ℕ) → q < n → lowAt b q ≡ highAt b q
   lowest-closed e q g = let h = rw e at (chosen b n 0) in omega (ints, h q (omega arith) (omega arith), f .filled q g)
+
+-- the choice among all n, where it is one of the first m, is the choice among these
+pub lowest-same : (m n : ℕ) (b : Box) → m ≤ n → ((q : ℕ) → lowest n b ≡ At q → q < m) → lowest m b ≡ lowest n b
+lowest-same m n b le f = by (lowest m b) (chosen b m 0) (lowest n b) refl (chosen b n 0)
+  where
+    by : (x : Open) → Chosen b m 0 x → (y : Open) → lowest n b ≡ y → Chosen b n 0 y → x ≡ y
+    by (At q) h (At r) e k = pick (decLt q r) (decLt r q)
+      where
+        pick : Dec (q < r) → Dec (r < q) → At q ≡ At r
+        pick (yes l) d = absurd (omega (ints, h .1, k .2 q (omega arith) l))
+        pick (no l) (yes g) = absurd (omega (ints, k .1, h .2 r (omega arith) g))
+        pick (no l) (no g) = ap At (omega arith)
+    by (At q) h Closed e k = absurd (omega (ints, h .1, k q (omega arith) (omega (arith, h .0))))
+    by Closed h (At r) e k = absurd (omega (ints, k .1, h r (omega arith) (omega (arith, f r e))))
+    by Closed h Closed e k = refl
 
 -- ---- the loop that looks for it
 open-here : (b : Box) (k q : ℕ) → ltZ (lowAt b q) (highAt b q) ≡ true → openFrom b (suc k) q ≡ At q

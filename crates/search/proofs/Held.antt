@@ -25,26 +25,26 @@ use Rattle.search.proofs.Going.{Going, go-cut, go-taken, go-split, end-
 use Rattle.search.proofs.Slots.{stackOf, stack-length, stack-none, stack-more, stack-put, mid-put, mid-put-first, mid-put-second, drop-far}
 
 -- slots of w numbers, with room for D + 1 of them in l₀
-pub record Frame (sweep : Box → Swept) (choose : Box → Open) (n w : ℕ) (start : Box) (l₀ : List ℤ) : Type 0 where
-  pub law : Lawful sweep choose n n start
+pub record Frame (sweep : Box → Swept) (choose : Box → Open) (n lead w : ℕ) (start : Box) (l₀ : List ℤ) : Type 0 where
+  pub law : Lawful sweep choose n lead start
   pub fine : Part n start start
   pub some : 1 ≤ n
   pub wide : w ≡ 2 * n
-  pub room : suc (depth n start) * w ≤ length l₀
+  pub room : suc (depth lead start) * w ≤ length l₀
 
 -- l holds the box in hand in slot s and those that wait below it, k sweeps are left, and the run gives o
-pub record Held (sweep : Box → Swept) (choose : Box → Open) (n w : ℕ) (start : Box) (o : Outcome) (l₀ l : List ℤ) (k s : ℕ) : Type 0 where
+pub record Held (sweep : Box → Swept) (choose : Box → Open) (n lead w : ℕ) (start : Box) (o : Outcome) (l₀ l : List ℤ) (k s : ℕ) : Type 0 where
   pub len : length l ≡ length l₀
-  pub rest : drop (suc (depth n start) * w) l ≡ drop (suc (depth n start) * w) l₀
-  pub going : Going sweep choose n n start o k (midOf (s * w) w l) (stackOf w s l)
+  pub rest : drop (suc (depth lead start) * w) l ≡ drop (suc (depth lead start) * w) l₀
+  pub going : Going sweep choose n lead start o k (midOf (s * w) w l) (stackOf w s l)
 
-going-at : {sweep : Box → Swept} {choose : Box → Open} {n : ℕ} {start : Box} {o : Outcome} {k : ℕ} {c c′ : Box} {ws ws′ : List Box} → c ≡ c′ → ws ≡ ws′ → Going sweep choose n n start o k c ws → Going sweep choose n n start o k c′ ws′
-going-at {sweep} {choose} {n} {start} {o} {k} {c} {c′} {ws} {ws′} e f g =
-    subst (λ (x : List Box). Going sweep choose n n start o k c′ x) f (subst (λ (x : Box). Going sweep choose n n start o k x ws) e g)
+going-at : {sweep : Box → Swept} {choose : Box → Open} {n lead : ℕ} {start : Box} {o : Outcome} {k : ℕ} {c c′ : Box} {ws ws′ : List Box} → c ≡ c′ → ws ≡ ws′ → Going sweep choose n lead start o k c ws → Going sweep choose n lead start o k c′ ws′
+going-at {sweep} {choose} {n} {lead} {start} {o} {k} {c} {c′} {ws} {ws′} e f g =
+    subst (λ (x : List Box). Going sweep choose n lead start o k c′ x) f (subst (λ (x : Box). Going sweep choose n lead start o k x ws) e g)
 
-module _ {sweep : Box → Swept} {choose : Box → Open} {n w : ℕ} {start : Box} {l₀ : List ℤ} (f : Frame sweep choose n w start l₀) where
+module _ {sweep : Box → Swept} {choose : Box → Open} {n lead w : ℕ} {start : Box} {l₀ : List ℤ} (f : Frame sweep choose n lead w start l₀) where
   -- the search begins with the starting box in the first slot
-  pub held-start : (k : ℕ) (r : List ℤ) → l₀ ≡ start ++ r → Held sweep choose n w start (run sweep choose k start []) l₀ l₀ k 0
+  pub held-start : (k : ℕ) (r : List ℤ) → l₀ ≡ start ++ r → Held sweep choose n lead w start (run sweep choose k start []) l₀ l₀ k 0
   held-start k r e =
       let first : start ≡ midOf (0 * w) w l₀ =
       sym (ap (λ (m : ℕ). midOf m w l₀) (zero-mul w) ∙ ap (λ (x : List ℤ). take w x) e ∙ take-at start r w (f .fine .long ∙ sym (f .wide))) in
@@ -54,11 +54,11 @@ module _ {sweep : Box → Swept} {choose : Box → Open} {n w : ℕ} {start : Bo
         going = going-at first (sym (stack-none w l₀)) (record { stack = begin (f .law) (f .fine); same = refl });
       }
 
-  module _ {o : Outcome} {l : List ℤ} {k s : ℕ} (h : Held sweep choose n w start o l₀ l k s) where
-    below : s ≤ depth n start
+  module _ {o : Outcome} {l : List ℤ} {k s : ℕ} (h : Held sweep choose n lead w start o l₀ l k s) where
+    below : s ≤ depth lead start
     below = omega (arith, h .going .stack .1, stack-length w s l)
 
-    slot-top : s * w + w ≤ suc (depth n start) * w
+    slot-top : s * w + w ≤ suc (depth lead start) * w
     slot-top = omega (arith, mul-le-mul-right w (suc-le-suc below), suc-mul s w)
 
     -- the slot in hand lies in the workspace
@@ -78,7 +78,7 @@ module _ {sweep : Box → Swept} {choose : Box → Open} {n w : ℕ} {start : Bo
     -- no sweep is left
     pub stopped-is : k ≡ 0 → o ≡ stopped (midOf (s * w) (s * w + w - s * w) l) (stackOf w s l)
     stopped-is z =
-        end-stopped (subst (λ (m : ℕ). Going sweep choose n n start o m (midOf (s * w) (s * w + w - s * w) l) (stackOf w s l)) z (going-at (sym here-is) refl (h .going)))
+        end-stopped (subst (λ (m : ℕ). Going sweep choose n lead start o m (midOf (s * w) (s * w + w - s * w) l) (stackOf w s l)) z (going-at (sym here-is) refl (h .going)))
 
     module _ (ys : List ℤ) (kept : length ys ≡ length (midOf (s * w) (s * w + w - s * w) l)) where
       ys-long : length ys ≡ w
@@ -87,9 +87,9 @@ module _ {sweep : Box → Swept} {choose : Box → Open} {n w : ℕ} {start : Bo
       pub put-len : length (putMid (s * w) (s * w + w - s * w) l ys) ≡ length l₀
       put-len = same-len-mid (s * w) (s * w + w - s * w) l ys kept ∙ h .len
 
-      pub put-rest : drop (suc (depth n start) * w) (putMid (s * w) (s * w + w - s * w) l ys) ≡ drop (suc (depth n start) * w) l₀
+      pub put-rest : drop (suc (depth lead start) * w) (putMid (s * w) (s * w + w - s * w) l ys) ≡ drop (suc (depth lead start) * w) l₀
       put-rest =
-          drop-far (s * w + w) (suc (depth n start) * w) _ l slot-top
+          drop-far (s * w + w) (suc (depth lead start) * w) _ l slot-top
           (drop-put (s * w) (s * w + w) l ys (omega arith) slot-in (omega (arith, ys-long)))
           ∙ h .rest
 
@@ -100,8 +100,8 @@ module _ {sweep : Box → Swept} {choose : Box → Open} {n w : ℕ} {start : Bo
       put-here = mid-put (s * w) (s * w + w - s * w) w l ys (omega (arith, slot-in)) ys-long
 
   -- ---- after a sweep of the box in hand, which left ys in its slot
-  module _ {o : Outcome} {l : List ℤ} {j s : ℕ} (h : Held sweep choose n w start o l₀ l (suc j) s) where
-    hand : Going sweep choose n n start o (suc j) (midOf (s * w) (s * w + w - s * w) l) (stackOf w s l)
+  module _ {o : Outcome} {l : List ℤ} {j s : ℕ} (h : Held sweep choose n lead w start o l₀ l (suc j) s) where
+    hand : Going sweep choose n lead start o (suc j) (midOf (s * w) (s * w + w - s * w) l) (stackOf w s l)
     hand = going-at (sym (here-is h)) refl (h .going)
 
     pub none-is : s ≡ 0 → empty ≡ sweep (midOf (s * w) (s * w + w - s * w) l) → o ≡ none j
@@ -109,7 +109,7 @@ module _ {sweep : Box → Swept} {choose : Box → Open} {n w : ℕ} {start : Bo
 
     module _ (ys : List ℤ) (kept : length ys ≡ length (midOf (s * w) (s * w + w - s * w) l)) where
       -- a range changed: the same slot, one sweep less
-      pub held-changed : changed ys ≡ sweep (midOf (s * w) (s * w + w - s * w) l) → Held sweep choose n w start o l₀ (putMid (s * w) (s * w + w - s * w) l ys) j s
+      pub held-changed : changed ys ≡ sweep (midOf (s * w) (s * w + w - s * w) l) → Held sweep choose n lead w start o l₀ (putMid (s * w) (s * w + w - s * w) l ys) j s
       held-changed e =
           record {
             len = put-len h ys kept;
@@ -118,7 +118,7 @@ module _ {sweep : Box → Swept} {choose : Box → Open} {n w : ℕ} {start : Bo
           }
 
       -- empty: the box stored last is in hand
-      pub held-taken : (s ≡ 0 → ⊥) → empty ≡ sweep (midOf (s * w) (s * w + w - s * w) l) → Held sweep choose n w start o l₀ (putMid (s * w) (s * w + w - s * w) l ys) j (s - 1)
+      pub held-taken : (s ≡ 0 → ⊥) → empty ≡ sweep (midOf (s * w) (s * w + w - s * w) l) → Held sweep choose n lead w start o l₀ (putMid (s * w) (s * w + w - s * w) l ys) j (s - 1)
       held-taken ne e =
           let z : s ≡ suc (s - 1) = omega arith in
           let x = putMid (s * w) (s * w + w - s * w) l ys in
@@ -130,8 +130,8 @@ module _ {sweep : Box → Swept} {choose : Box → Open} {n w : ℕ} {start : Bo
           }
 
       -- nothing changed: the workspace is as it was
-      pub held-same : ys ≡ midOf (s * w) (s * w + w - s * w) l → Held sweep choose n w start o l₀ (putMid (s * w) (s * w + w - s * w) l ys) (suc j) s
-      held-same e = subst (λ (x : List ℤ). Held sweep choose n w start o l₀ x (suc j) s) (sym (ap (putMid (s * w) (s * w + w - s * w) l) e ∙ put-same (s * w) (s * w + w - s * w) l)) h
+      pub held-same : ys ≡ midOf (s * w) (s * w + w - s * w) l → Held sweep choose n lead w start o l₀ (putMid (s * w) (s * w + w - s * w) l ys) (suc j) s
+      held-same e = subst (λ (x : List ℤ). Held sweep choose n lead w start o l₀ x (suc j) s) (sym (ap (putMid (s * w) (s * w + w - s * w) l) e ∙ put-same (s * w) (s * w + w - s * w) l)) h
 
       pub same-here : ys ≡ midOf (s * w) (s * w + w - s * w) l → midOf (s * w) (s * w + w - s * w) (putMid (s * w) (s * w + w - s * w) l ys) ≡ midOf (s * w) (s * w + w - s * w) l
       same-here e = ap (midOf (s * w) (s * w + w - s * w)) (ap (putMid (s * w) (s * w + w - s * w) l) e ∙ put-same (s * w) (s * w + w - s * w) l)
@@ -148,9 +148,9 @@ module _ {sweep : Box → Swept} {choose : Box → Open} {n w : ℕ} {start : Bo
         pub can-split : Splits n (midOf (s * w) (s * w + w - s * w) l) q
         can-split = splits (f .law) q (here-part h) sw (sym op)
 
-        next-top : s * w + w + w ≤ suc (depth n start) * w
+        next-top : s * w + w + w ≤ suc (depth lead start) * w
         next-top =
-            let lt : s < depth n start = omega (arith, lower-deep can-split n (omega arith) (can-split .less), hand .stack .1, stack-length w s l) in
+            let lt : s < depth lead start = omega (arith, lower-deep can-split lead (f .law .leading) (f .law .leads _ _ q (here-part h) sw (sym op)), hand .stack .1, stack-length w s l) in
             omega (arith, mul-le-mul-right w (suc-le-suc lt), suc-mul s w, suc-mul (suc s) w)
 
         -- there is a slot behind the one in hand
@@ -201,17 +201,17 @@ module _ {sweep : Box → Swept} {choose : Box → Open} {n w : ℕ} {start : Bo
               ∙ ap (λ (x : Box). x ∷ stackOf w s both) (ap (λ (x : List ℤ). midOf (s * w) w x) as-put ∙ mid-put-first (s * w) (s * w + w + w - s * w) w l (upperPart b q) (lowerPart b q) at-in u-long)
               ∙ ap (λ (x : List Box). upperPart b q ∷ x) (stack-put w s (s * w + w + w - s * w) l zs at-in)
 
-          pub held-split : Held sweep choose n w start o l₀ (putMid (s * w) (s * w + w + w - s * w) l zs) j (s + 1)
+          pub held-split : Held sweep choose n lead w start o l₀ (putMid (s * w) (s * w + w + w - s * w) l zs) j (s + 1)
           held-split =
               record {
                 len = same-len-mid (s * w) (s * w + w + w - s * w) l zs (zs-long ∙ sym two-long) ∙ h .len;
                 rest =
-                    drop-far (s * w + w + w) (suc (depth n start) * w) _ l next-top
+                    drop-far (s * w + w + w) (suc (depth lead start) * w) _ l next-top
                     (drop-put (s * w) (s * w + w + w) l zs (omega arith) next-in (omega (arith, zs-long)))
                     ∙ h .rest;
                 going = going-at (sym lower-here) (sym upper-waits) (go-split (f .law) q hand sw (sym op));
               }
 
   -- one sweep of those left
-  pub held-one : {o : Outcome} {l : List ℤ} {k s : ℕ} → (k ≡ 0 → ⊥) → Held sweep choose n w start o l₀ l k s → Held sweep choose n w start o l₀ l (suc (k - 1)) s
-  held-one {o} {l} {k} {s} ne h = let z : k ≡ suc (k - 1) = omega arith in subst (λ (m : ℕ). Held sweep choose n w start o l₀ l m s) z h
+  pub held-one : {o : Outcome} {l : List ℤ} {k s : ℕ} → (k ≡ 0 → ⊥) → Held sweep choose n lead w start o l₀ l k s → Held sweep choose n lead w start o l₀ l (suc (k - 1)) s
+  held-one {o} {l} {k} {s} ne h = let z : k ≡ suc (k - 1) = omega arith in subst (λ (m : ℕ). Held sweep choose n lead w start o l₀ l m s) z h

@@ -7,6 +7,7 @@ pub mod Demand2
 pub mod Going
 pub mod Judged
 pub mod Instance
+pub mod Leads
 pub mod SolveGrounds
 pub mod Answered
 pub mod Longer

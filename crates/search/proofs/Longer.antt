@@ -80,12 +80,12 @@ module _ {sweep : Box → Swept} {choose : Box → Open} {n lead : ℕ} {start :
   longer-run p₀ p₀′ = by p₀ p₀′ (run sweep choose k start []) (run sweep choose l start []) refl refl
 
 -- for two solves of a problem that neither refuses
-pub sound-longer : {rs ps ns ls : List ℤ} {budget budget′ : ℤ} {p₀ w₀ p w p₀′ w₀′ p′ w′ : List ℤ} {r r′ : Solved}
-    → Solves rs ps ns ls budget p₀ w₀ p w r → Solves rs ps ns ls budget′ p₀′ w₀′ p′ w′ r′
-    → judged rs ps ns ls budget p₀ w₀ ≡ Sound → judged rs ps ns ls budget′ p₀′ w₀′ ≡ Sound
+pub sound-longer : {rs ps ns ls : List ℤ} {lead budget budget′ : ℤ} {p₀ w₀ p w p₀′ w₀′ p′ w′ : List ℤ} {r r′ : Solved}
+    → Solves rs ps ns ls lead budget p₀ w₀ p w r → Solves rs ps ns ls lead budget′ p₀′ w₀′ p′ w′ r′
+    → judged rs ps ns ls lead budget p₀ w₀ ≡ Sound → judged rs ps ns ls lead budget′ p₀′ w₀′ ≡ Sound
     → budget ≤ℤ budget′ → Longer (quantities rs) r r′ p p′
-sound-longer {rs} {ps} {ns} {ls} {budget} {budget′} {p₀} {w₀} {p} {w} {p₀′} {w₀′} {p′} {w′} {r} {r′} s t e e′ more =
-    let j = judges rs ps ns ls (accepted rs ps ns ls budget p₀ w₀ e .judge) in
+sound-longer {rs} {ps} {ns} {ls} {lead} {budget} {budget′} {p₀} {w₀} {p} {w} {p₀′} {w₀′} {p′} {w′} {r} {r′} s t e e′ more =
+    let j = judges rs ps ns ls (accepted rs ps ns ls lead budget p₀ w₀ e .judge) in
     rw (rw e at (s .result), rw e at (s .point), rw e′ at (t .result), rw e′ at (t .point))
     (longer-run (sweep-lawful rs ps ns ls j) (start-part (j .started)) (sweep-ordered rs ps ns ls j) (sweep-sound rs ps ns ls j)
     (positivePart budget) (positivePart budget′) (omega (ints, apart budget, apart budget′)) p₀ p₀′)

@@ -7,7 +7,7 @@ use native.Mathlib.Nat.{suc-mul}
 use native.Mathlib.Omega.{arith}
 use lib.ListN.{length, take, drop, length-append, length-drop}
 use lib.Seq.{drop-at, length-take-le}
-use lib.IntN.{ℤ}
+use lib.IntN.{ℤ, pos}
 use Rattle.whole.proofs.Kit.{ints}
 use Rattle.problem.specs.Problem.{Box, quantities}
 use Rattle.problem.specs.Lists.{primitivesOf, literalsOf, clausesOf, problemOf}
@@ -22,7 +22,8 @@ use Rattle.search.specs.inner.Ready.{Started, Ready, Searched}
 use Rattle.search.specs.inner.Steps.{Splittable}
 use Rattle.search.specs.declared.Solved.{Solved}
 use Rattle.search.proofs.Splits.{Splits}
-use Rattle.search.proofs.Instance.{start-part, sweep-lawful}
+use Rattle.search.proofs.Instance.{start-part}
+use Rattle.search.proofs.Leads.{sweep-leads}
 use Rattle.search.proofs.Slots.{drop-far}
 use Rattle.search.proofs.Held.{Frame, Held, held-start}
 
@@ -49,16 +50,16 @@ module _ {rs b : List ℤ} (f : Part (quantities rs) rs b) where
       }
 
 -- ---- the starting box is copied into the first slot, as ys
-module _ {rs ps ns ls p₀ w₀ : List ℤ} (r : Ready rs ps ns ls p₀ w₀) where
+module _ {rs ps ns ls : List ℤ} {lead : ℕ} {p₀ w₀ : List ℤ} (r : Ready rs ps ns ls lead p₀ w₀) where
   -- D + 1 slots
-  room-is : roomOf rs ≡ suc (depth (quantities rs) rs) * length rs
+  room-is : roomOf lead rs ≡ suc (depth lead rs) * length rs
   room-is =
-      let d = depth (quantities rs) rs in
-      let z : roomOf rs ≡ suc d * (2 * quantities rs) = omega arith in
+      let d = depth lead rs in
+      let z : roomOf lead rs ≡ suc d * (2 * quantities rs) = omega arith in
       z ∙ ap (λ (k : ℕ). suc d * k) (sym (r .started .long))
 
   pub width-in : length rs ≤ length w₀
-  width-in = omega (arith, r .room, room-is, suc-mul (depth (quantities rs) rs) (length rs))
+  width-in = omega (arith, r .room, room-is, suc-mul (depth lead rs) (length rs))
 
   pub first-long : length rs ≡ length (take (length rs) w₀)
   first-long = sym (length-take-le (length rs) w₀ width-in)
@@ -67,22 +68,22 @@ module _ {rs ps ns ls p₀ w₀ : List ℤ} (r : Ready rs ps ns ls p₀ w₀) wh
     pub copied-long : length (ys ++ drop (length rs) w₀) ≡ length w₀
     copied-long = length-append ys (drop (length rs) w₀) ∙ omega (arith, ap length e, length-drop (length rs) w₀, width-in)
 
-    pub frame : Frame (sweepOf (primitivesOf ps) (clausesOf ns (literalsOf ls))) (lowest (quantities rs)) (quantities rs) (length rs) rs (ys ++ drop (length rs) w₀)
+    pub frame : Frame (sweepOf (primitivesOf ps) (clausesOf ns (literalsOf ls))) (lowest (quantities rs)) (quantities rs) lead (length rs) rs (ys ++ drop (length rs) w₀)
     frame =
         record {
-          law = sweep-lawful rs ps ns ls (record { started = r .started; placed = r .placed });
+          law = sweep-leads rs ps ns ls (record { started = r .started; placed = r .placed }) (pos lead) (r .leads);
           fine = start-part (r .started);
           some = r .started .some;
           wide = r .started .long;
           room = omega (arith, r .room, room-is, copied-long);
         }
 
-    pub begins : (k : ℕ) → Held (sweepOf (primitivesOf ps) (clausesOf ns (literalsOf ls))) (lowest (quantities rs)) (quantities rs) (length rs) rs (searchOf (problemOf rs ps ns ls) k) (ys ++ drop (length rs) w₀) (ys ++ drop (length rs) w₀) k 0
+    pub begins : (k : ℕ) → Held (sweepOf (primitivesOf ps) (clausesOf ns (literalsOf ls))) (lowest (quantities rs)) (quantities rs) lead (length rs) rs (searchOf (problemOf rs ps ns ls) k) (ys ++ drop (length rs) w₀) (ys ++ drop (length rs) w₀) k 0
     begins k = held-start frame k (drop (length rs) w₀) (ap (λ (x : List ℤ). x ++ drop (length rs) w₀) e)
 
     -- ---- and at each end of the search
-    pub ends : (k : ℕ) (l p : List ℤ) (s : Solved) (o : Outcome) → drop (suc (depth (quantities rs) rs) * length rs) l ≡ drop (suc (depth (quantities rs) rs) * length rs) (ys ++ drop (length rs) w₀)
-        → searchOf (problemOf rs ps ns ls) k ≡ o → s ≡ answered k o → p ≡ pointOf o p₀ → Searched rs ps ns ls k p₀ w₀ p l s
+    pub ends : (k : ℕ) (l p : List ℤ) (s : Solved) (o : Outcome) → drop (suc (depth lead rs) * length rs) l ≡ drop (suc (depth lead rs) * length rs) (ys ++ drop (length rs) w₀)
+        → searchOf (problemOf rs ps ns ls) k ≡ o → s ≡ answered k o → p ≡ pointOf o p₀ → Searched rs ps ns ls lead k p₀ w₀ p l s
     ends k l p s o rest is result point =
         record {
           result = result ∙ ap (answered k) (sym is);
@@ -90,6 +91,6 @@ module _ {rs ps ns ls p₀ w₀ : List ℤ} (r : Ready rs ps ns ls p₀ w₀) wh
           rest =
               rw room-is
               (rest
-              ∙ drop-far (length rs) (suc (depth (quantities rs) rs) * length rs) (ys ++ drop (length rs) w₀) w₀ (omega (arith, suc-mul (depth (quantities rs) rs) (length rs)))
+              ∙ drop-far (length rs) (suc (depth lead rs) * length rs) (ys ++ drop (length rs) w₀) w₀ (omega (arith, suc-mul (depth lead rs) (length rs)))
               (drop-at ys (drop (length rs) w₀) (length rs) (ap length e)));
         }

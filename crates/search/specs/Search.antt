@@ -76,3 +76,7 @@ lowest n b = openFrom b n 0
 -- the search of a problem: it starts with the given box, and no box waits
 abbrev pub searchOf : Problem → ℕ → Outcome
 searchOf p budget = run (sweepOf (p .primitives) (p .clauses)) (lowest (quantities (p .ranges))) budget (p .ranges) []
+
+-- the search that splits leading quantities only
+abbrev pub leadingSearchOf : ℕ → Problem → ℕ → Outcome
+leadingSearchOf lead p budget = run (sweepOf (p .primitives) (p .clauses)) (lowest lead) budget (p .ranges) []

@@ -1,4 +1,4 @@
--- What a solve gives back, and what it leaves in the caller's buffers: document 01, "What a solve gives back".
+-- What a solve gives back, and what it leaves in the caller's buffers: document 01, "What a solve gives back", and document 02, L6.
 use mathlib.Core.Path.{_≡_}
 use mathlib.Core.Bool.{Bool, true, not, cond, _||_}
 use mathlib.Core.List.{List, [], _∷_, _++_}
@@ -11,7 +11,8 @@ use Rattle.whole.specs.Numbers.{positivePart}
 use Rattle.problem.specs.Problem.{Box, quantities}
 use Rattle.problem.specs.Lists.{problemOf}
 use Rattle.problem.specs.Grounds.{badQuantities, badLists, badRanges, badPrimitives, badLiterals, judgeOf, refusalNumber}
-use Rattle.problem.specs.declared.Refusal.the-variants.{Budget, Room}
+use Rattle.problem.specs.Leading.{badLeading}
+use Rattle.problem.specs.declared.Refusal.the-variants.{Budget, Room, Leading}
 use Rattle.problem.specs.declared.Judged.{Judged}
 use Rattle.problem.specs.declared.Judged.the-variants.{Sound, Refused}
 use Rattle.search.specs.Search.{Outcome, stopped, found, none, searchOf}
@@ -25,35 +26,42 @@ abbrev pub badBudget : ℤ → Bool
 badBudget budget = ltZ budget (pos 0) || ltZ (pos 1_000_000_000) budget
 
 -- 7: point buffer not n numbers, or workspace too short
-abbrev pub badRoom : List ℤ → List ℤ → List ℤ → Bool
-badRoom rs point work = not (eqb (length point) (quantities rs)) || ltb (length work) (roomOf rs)
+abbrev pub badRoom : ℤ → List ℤ → List ℤ → List ℤ → Bool
+badRoom lead rs point work = not (eqb (length point) (quantities rs)) || ltb (length work) (roomOf (positivePart lead) rs)
 
 -- the grounds of a refusal by their numbers
-pub data SolveGround (rs ps ns ls : List ℤ) (budget : ℤ) (point work : List ℤ) : ℕ → Type 0 where
+pub data SolveGround (rs ps ns ls : List ℤ) (lead budget : ℤ) (point work : List ℤ) : ℕ → Type 0 where
   -- range list odd, or n not 1 to 128
-  by-quantities : badQuantities rs ≡ true → SolveGround rs ps ns ls budget point work 1
+  by-quantities : badQuantities rs ≡ true → SolveGround rs ps ns ls lead budget point work 1
   -- a list too long, primitive list not in fours, a clause length below 0, or literal list not three times the sum of lengths
-  by-lists : badLists ps ns ls ≡ true → SolveGround rs ps ns ls budget point work 2
+  by-lists : badLists ps ns ls ≡ true → SolveGround rs ps ns ls lead budget point work 2
   -- a range with low above high, or an end beyond plus or minus M
-  by-ranges : badRanges rs ≡ true → SolveGround rs ps ns ls budget point work 3
+  by-ranges : badRanges rs ≡ true → SolveGround rs ps ns ls lead budget point work 3
   -- unknown kind, missing quantity, or y not 0 in kind 3
-  by-primitives : badPrimitives (quantities rs) ps ≡ true → SolveGround rs ps ns ls budget point work 4
+  by-primitives : badPrimitives (quantities rs) ps ≡ true → SolveGround rs ps ns ls lead budget point work 4
   -- literal with missing quantity, unknown sense, or bound beyond plus or minus M
-  by-literals : badLiterals (quantities rs) ls ≡ true → SolveGround rs ps ns ls budget point work 5
+  by-literals : badLiterals (quantities rs) ls ≡ true → SolveGround rs ps ns ls lead budget point work 5
   -- budget outside 0 to 1,000,000,000
-  by-budget : badBudget budget ≡ true → SolveGround rs ps ns ls budget point work 6
+  by-budget : badBudget budget ≡ true → SolveGround rs ps ns ls lead budget point work 6
+  -- a leading number outside 1 to n, or a later quantity that is neither one value nor the result of a primitive over lower-numbered ones
+  by-leading : badLeading rs ps lead ≡ true → SolveGround rs ps ns ls lead budget point work 8
   -- point buffer not n numbers, or workspace too short
-  by-room : badRoom rs point work ≡ true → SolveGround rs ps ns ls budget point work 7
+  by-room : badRoom lead rs point work ≡ true → SolveGround rs ps ns ls lead budget point work 7
 
--- the first ground met, 1 to 7
+-- 8 is looked at after 6 and before 7
+abbrev pub solveOrder : List ℕ
+solveOrder = 1 ∷ 2 ∷ 3 ∷ 4 ∷ 5 ∷ 6 ∷ 8 ∷ 7 ∷ []
+
+-- the first ground met, in this order
 abbrev pub orElse : Judged → Judged → Judged
 orElse Sound j = j
 orElse (Refused g) j = Refused g
 
-unfoldable pub judged : List ℤ → List ℤ → List ℤ → List ℤ → ℤ → List ℤ → List ℤ → Judged
-judged rs ps ns ls budget point work =
+unfoldable pub judged : List ℤ → List ℤ → List ℤ → List ℤ → ℤ → ℤ → List ℤ → List ℤ → Judged
+judged rs ps ns ls lead budget point work =
     orElse (judgeOf rs ps ns ls)
-    (cond (badBudget budget) (Refused Budget) (cond (badRoom rs point work) (Refused Room) Sound))
+    (cond (badBudget budget) (Refused Budget)
+    (cond (badLeading rs ps lead) (Refused Leading) (cond (badRoom lead rs point work) (Refused Room) Sound)))
 
 -- the low end of each quantity in a box
 unfoldable pub lows : Box → List ℤ
@@ -88,10 +96,10 @@ abbrev pub cleared : ℕ → List ℤ → List ℤ
 cleared room work = replicate room (pos 0) ++ drop room work
 
 -- the result, and what point buffer and workspace hold (p, w), from what they came with (p₀, w₀)
-pub record Solves (rs ps ns ls : List ℤ) (budget : ℤ) (p₀ w₀ p w : List ℤ) (r : Solved) : Type 0 where
-  pub result : r ≡ resultOf (judged rs ps ns ls budget p₀ w₀) (positivePart budget) (searchOf (problemOf rs ps ns ls) (positivePart budget))
-  pub point : p ≡ unless (judged rs ps ns ls budget p₀ w₀) (pointOf (searchOf (problemOf rs ps ns ls) (positivePart budget)) p₀) p₀
-  pub work : w ≡ unless (judged rs ps ns ls budget p₀ w₀) (cleared (roomOf rs) w₀) w₀
+pub record Solves (rs ps ns ls : List ℤ) (lead budget : ℤ) (p₀ w₀ p w : List ℤ) (r : Solved) : Type 0 where
+  pub result : r ≡ resultOf (judged rs ps ns ls lead budget p₀ w₀) (positivePart budget) (searchOf (problemOf rs ps ns ls) (positivePart budget))
+  pub point : p ≡ unless (judged rs ps ns ls lead budget p₀ w₀) (pointOf (searchOf (problemOf rs ps ns ls) (positivePart budget)) p₀) p₀
+  pub work : w ≡ unless (judged rs ps ns ls lead budget p₀ w₀) (cleared (roomOf (positivePart lead) rs) w₀) w₀
 
 -- document 01's number of a refusal; 0 where there is none
 abbrev pub numberOf : Answer → ℕ

@@ -39,17 +39,18 @@ fn after(sweeps: usize, answer: Answer) -> Solved
     Solved { answer, sweeps }
 }
 
-// The first ground met, 1 to 7.
+// The first ground met, 1 to 6, then 8, then 7.
 fn judge(
     ranges: &[i64],
     primitives: &[i64],
     lengths: &[i64],
     literals: &[i64],
+    leading: i64,
     budget: i64,
     point: &[i64],
     work: &[i64],
 ) -> Judged
-    ensures { λ r. ⌜ r ≡ judged (now (ranges .entry)) (now (primitives .entry)) (now (lengths .entry)) (now (literals .entry)) budget (now (point .entry)) (now (work .entry)) ⌝ }
+    ensures { λ r. ⌜ r ≡ judged (now (ranges .entry)) (now (primitives .entry)) (now (lengths .entry)) (now (literals .entry)) leading budget (now (point .entry)) (now (work .entry)) ⌝ }
 {
     let judged = problem::judge(ranges, primitives, lengths, literals);
     if let Judged::Refused(ground) = judged {
@@ -58,27 +59,32 @@ fn judge(
     if budget < 0 || MOST < budget {
         return Judged::Refused(Refusal::Budget);
     }
+    if problem::leading::bad_leading(ranges, primitives, leading) {
+        return Judged::Refused(Refusal::Leading);
+    }
     if point.len() != ranges.len() / 2 {
         return Judged::Refused(Refusal::Room);
     }
-    if work.len() < room::needed(ranges) {
+    if work.len() < room::needed(ranges, leading as usize) {
         return Judged::Refused(Refusal::Room);
     }
     Judged::Sound
 }
 
 // The search of the starting box, in slots of the workspace: the boxes that wait, and the box in hand behind them.
+// The leading quantities say how many boxes can wait.
 fn search(
     ranges: &[i64],
     primitives: &[i64],
     lengths: &[i64],
     literals: &[i64],
+    leading: usize,
     budget: usize,
     point: &mut [i64],
     work: &mut [i64],
 ) -> Solved
-    requires { ⌜ Ready (now ranges) (now primitives) (now lengths) (now literals) (now point) (now work) ⌝ }
-    ensures { λ r. ⌜ Searched (now (ranges .entry)) (now (primitives .entry)) (now (lengths .entry)) (now (literals .entry)) budget (now (point .entry)) (now (work .entry)) (now (point .exit)) (now (work .exit)) r ⌝ }
+    requires { ⌜ Ready (now ranges) (now primitives) (now lengths) (now literals) leading (now point) (now work) ⌝ }
+    ensures { λ r. ⌜ Searched (now (ranges .entry)) (now (primitives .entry)) (now (lengths .entry)) (now (literals .entry)) leading budget (now (point .entry)) (now (work .entry)) (now (point .exit)) (now (work .exit)) r ⌝ }
 {
     let width = ranges.len();
     boxes::copy(ranges, &mut work[..width]);
@@ -120,13 +126,23 @@ pub fn solve(
     primitives: &[i64],
     lengths: &[i64],
     literals: &[i64],
+    leading: i64,
     budget: i64,
     point: &mut [i64],
     work: &mut [i64],
 ) -> Solved
-    ensures { λ r. ⌜ Solves (now (ranges .entry)) (now (primitives .entry)) (now (lengths .entry)) (now (literals .entry)) budget (now (point .entry)) (now (work .entry)) (now (point .exit)) (now (work .exit)) r ⌝ }
+    ensures { λ r. ⌜ Solves (now (ranges .entry)) (now (primitives .entry)) (now (lengths .entry)) (now (literals .entry)) leading budget (now (point .entry)) (now (work .entry)) (now (point .exit)) (now (work .exit)) r ⌝ }
 {
-    let judged = judge(ranges, primitives, lengths, literals, budget, point, work);
+    let judged = judge(
+        ranges,
+        primitives,
+        lengths,
+        literals,
+        leading,
+        budget,
+        point,
+        work,
+    );
     if let Judged::Refused(ground) = judged {
         return after(0, Answer::Refused(ground));
     }
@@ -135,11 +151,12 @@ pub fn solve(
         primitives,
         lengths,
         literals,
+        leading as usize,
         budget as usize,
         point,
         work,
     );
-    let needed = room::needed(ranges);
+    let needed = room::needed(ranges, leading as usize);
     boxes::clear(&mut work[..needed]);
     solved
 }

@@ -9,7 +9,7 @@ use lib.ListN.{length}
 use Rattle.meaning.specs.Grounds.{shortLists, Outcome, refused, read, outcomeOf, refusalNumber}
 use Rattle.meaning.specs.declared.Refusal.{Refusal}
 use Rattle.meaning.specs.declared.Refusal.the-variants as refusal
-use Rattle.meaning.proofs.Promises.{grounds, grounds-back, demand3, fits, accepted-sound, read-back}
+use Rattle.meaning.proofs.Promises.{grounds, grounds-back, demand3, fits, accepted-sound, accepted-leads, read-back}
 use Rattle.translate.specs.Translate.{judged, resultOf, Translates}
 use Rattle.translate.specs.Meaning.{RefusedFor, lists, sheet, Translation}
 use Rattle.translate.specs.declared.Counts.{Counts}
@@ -27,6 +27,7 @@ translation t c rs ps ns ls bytes h =
       declared = ap (λ (x : Counts). x .declared) (h .counts) ∙ sym (fits t s (h .is) .many) ∙ ap length (d .2);
       names = rw (← d .2) (h .names);
       sound = rw (h .ranges, h .primitives, h .lengths, h .literals) (accepted-sound t s (h .is));
+      leads = rw (h .ranges, h .primitives, ap (λ (x : Counts). x .declared) (h .counts)) (accepted-leads t s (h .is));
       faithful = rw (h .ranges, h .primitives, h .lengths, h .literals, read-back s, ← d .2) (d .3);
     }
 

@@ -3,10 +3,11 @@ use mathlib.Core.Path.{_≡_}
 use mathlib.Core.Bool.{true, false}
 use mathlib.Core.List.{List}
 use Prim.Native.Nat.{ℕ, _*_}
-use lib.IntN.{ℤ}
+use lib.IntN.{ℤ, pos}
 use lib.ListN.{length, take}
 use Rattle.problem.specs.Lists.{problemOf}
 use Rattle.problem.specs.Grounds.{judgeOf}
+use Rattle.problem.specs.Leading.{badLeading}
 use Rattle.problem.specs.declared.Judged.the-variants.{Sound}
 use Rattle.sheet.specs.Grammar.{Line}
 use Rattle.meaning.specs.Lists.{nameBytes}
@@ -49,6 +50,8 @@ pub record Translation (t : List ℕ) (c : Counts) (rs ps ns ls : List ℤ) (byt
   pub names : nameFront c bytes ≡ nameBytes (declaredIn trees)
   -- a solve refuses the fronts on none of its grounds 1 to 5
   pub sound : judgeOf (rangeFront c rs) (primitiveFront c ps) (lengthFront c ns) (literalFront c ls) ≡ Sound
+  -- nor on 8, the declared quantities being the leading ones
+  pub leads : badLeading (rangeFront c rs) (primitiveFront c ps) (pos (c .declared)) ≡ false
   -- and their problem says what the sheet says
   pub faithful :
       Faithful (topIn t) trees (declaredIn trees) (problemOf (rangeFront c rs) (primitiveFront c ps) (lengthFront c ns) (literalFront c ls))

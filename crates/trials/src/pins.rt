@@ -1,6 +1,6 @@
 // Problems with stored answers and counts. Each line of a table is a case: the answer's number, its sweeps, the workspace needed, the
-// budget, and the numbers of quantities, primitives, clauses and literals; then the ranges, primitives, lengths and literals; then the
-// point or the floor, or nothing after NONE.
+// leading number, the budget, and the numbers of quantities, primitives, clauses and literals; then the ranges, primitives, lengths and
+// literals; then the point or the floor, or nothing after NONE and after a refusal.
 use crate::solving;
 use cases::lists;
 use cases::report;
@@ -8,17 +8,17 @@ use cases::rows;
 use cases::text;
 
 // How many fields stand before the lists.
-const FIELDS: usize = 8;
+const FIELDS: usize = 9;
 
 // How many more numbers of workspace are lent than are needed.
 const MORE: usize = 3;
 
 // How many numbers of each list a case has.
 fn sizes(table: &[u8], from: usize) -> solving::Sizes {
-    let n = text::count_in(table, from, 4);
-    let primitives = text::count_in(table, from, 5);
-    let lengths = text::count_in(table, from, 6);
-    let literals = text::count_in(table, from, 7);
+    let n = text::count_in(table, from, 5);
+    let primitives = text::count_in(table, from, 6);
+    let lengths = text::count_in(table, from, 7);
+    let literals = text::count_in(table, from, 8);
     let needed = text::count_in(table, from, 2);
     solving::Sizes {
         ranges: lists::times(n, 2),
@@ -47,9 +47,9 @@ fn lay(
     rows::read(table, fourth, sizes.literals, literals)
 }
 
-// Whether the point buffer is as a case asks: the numbers at a place, or as it came after NONE.
+// Whether the point buffer is as a case asks: the numbers at a place, or as it came after NONE and after a refusal.
 fn point_right(table: &[u8], at: usize, number: usize, n: usize, point: &[i64]) -> bool {
-    if number == solving::NONE {
+    if number <= solving::NONE {
         return lists::kept(point, 0);
     }
     if !rows::starts(table, at, n, point) {
@@ -75,7 +75,7 @@ fn right(
     if sweeps != text::count_in(table, from, 1) {
         return false;
     }
-    if !point_right(table, at, number, text::count_in(table, from, 4), point) {
+    if !point_right(table, at, number, text::count_in(table, from, 5), point) {
         return false;
     }
     solving::work_right(work, text::count_in(table, from, 2))
@@ -95,7 +95,8 @@ fn answered(
 ) -> bool {
     lists::mark(point);
     lists::mark(work);
-    let budget = text::number_in(table, from, 3);
+    let leading = text::number_in(table, from, 3);
+    let budget = text::number_in(table, from, 4);
     let sizes = sizes(table, from);
     let outcome = solving::solve(
         ranges,
@@ -103,6 +104,7 @@ fn answered(
         lengths,
         literals,
         sizes,
+        leading,
         budget,
         point,
         work,

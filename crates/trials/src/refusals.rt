@@ -1,18 +1,18 @@
-// Refusals 1 to 7, and what an answer leaves in the buffers. Each line of a table is a case: the answer's number, how many numbers of
-// the workspace are 0 after it, the lengths of the range, primitive, length and literal lists, the budget, the lengths of the point
-// buffer and the workspace, and up to three edits of the lists below: list, place, number.
+// Refusals 1 to 8, and what an answer leaves in the buffers. Each line of a table is a case: the answer's number, how many numbers of
+// the workspace are 0 after it, the lengths of the range, primitive, length and literal lists, the leading number, the budget, the
+// lengths of the point buffer and the workspace, and up to three edits of the lists below: list, place, number.
 use crate::solving;
 use cases::lists;
 use cases::report;
 use cases::text;
 
 // How many fields stand before the edits, and how many edits a case has at most.
-const FIELDS: usize = 9;
+const FIELDS: usize = 10;
 
 const EDITS: usize = 3;
 
 // The least of the numbers of the answers that are no refusal.
-const ANSWERS: usize = 8;
+const ANSWERS: usize = 50;
 
 // Quantities of 0 to 1: low, then high.
 fn range_base(list: &mut [i64]) {
@@ -84,8 +84,8 @@ fn sizes(table: &[u8], from: usize) -> solving::Sizes {
     let primitives = text::count_in(table, from, 3);
     let lengths = text::count_in(table, from, 4);
     let literals = text::count_in(table, from, 5);
-    let point = text::count_in(table, from, 7);
-    let work = text::count_in(table, from, 8);
+    let point = text::count_in(table, from, 8);
+    let work = text::count_in(table, from, 9);
     solving::Sizes {
         ranges,
         primitives,
@@ -184,7 +184,7 @@ fn right(
     if !sweeps_right(number, sweeps) {
         return false;
     }
-    if !point_right(number, point, ranges, text::count_in(table, from, 7)) {
+    if !point_right(number, point, ranges, text::count_in(table, from, 8)) {
         return false;
     }
     solving::work_right(work, text::count_in(table, from, 1))
@@ -203,7 +203,8 @@ fn answered(
 ) -> bool {
     lists::mark(point);
     lists::mark(work);
-    let budget = text::number_in(table, from, 6);
+    let leading = text::number_in(table, from, 6);
+    let budget = text::number_in(table, from, 7);
     let sizes = sizes(table, from);
     let outcome = solving::solve(
         ranges,
@@ -211,6 +212,7 @@ fn answered(
         lengths,
         literals,
         sizes,
+        leading,
         budget,
         point,
         work,

@@ -509,6 +509,7 @@ fn agrees(p: &[usize], more: usize, tried: &mut [usize]) -> bool {
         &lengths,
         &literals,
         sizes(p, n, needed, more),
+        lists::plain(n),
         lists::plain(budget),
         &mut point,
         &mut work,

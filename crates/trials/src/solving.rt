@@ -19,15 +19,15 @@ pub struct Outcome {
     pub sweeps: usize,
 }
 
-// The numbers of the answers that are no refusal; those of refusals are 1 to 7.
-pub const NONE: usize = 8;
+// The numbers of the answers that are no refusal; those of refusals are 1 to 8.
+pub const NONE: usize = 50;
 
-pub const FOUND: usize = 9;
+pub const FOUND: usize = 51;
 
-pub const STOP: usize = 10;
+pub const STOP: usize = 52;
 
 // What is given where a list is too short to be lent so.
-const SHORT: usize = 11;
+const SHORT: usize = 53;
 
 // A refusal's number.
 fn ground(refusal: Refusal) -> usize {
@@ -39,6 +39,7 @@ fn ground(refusal: Refusal) -> usize {
         Refusal::Literals => 5,
         Refusal::Budget => 6,
         Refusal::Room => 7,
+        Refusal::Leading => 8,
     }
 }
 
@@ -67,6 +68,7 @@ pub fn solve(
     lengths: &[i64],
     literals: &[i64],
     sizes: Sizes,
+    leading: i64,
     budget: i64,
     point: &mut [i64],
     work: &mut [i64],
@@ -101,6 +103,7 @@ pub fn solve(
         &primitives[from..p],
         &lengths[from..l],
         &literals[from..t],
+        leading,
         budget,
         &mut point[from..n],
         &mut work[from..w],

@@ -27,11 +27,11 @@ reportBy j o names point =
     let r = resultOf j deskBudget o in
     reportOf (r .answer) (r .sweeps) names (take (length names / 8) (unless j (pointOf o point) point))
 
--- the solve of these lists
+-- the solve of these lists, the quantities that have names leading
 unfoldable pub reportOn : List ℤ → List ℤ → List ℤ → List ℤ → List ℕ → List ℕ
 reportOn rs ps ns ls names =
     let point = replicate (length rs / 2) (pos 0) in
-    reportBy (judged rs ps ns ls (pos deskBudget) point deskWork) (searchOf (problemOf rs ps ns ls) deskBudget) names point
+    reportBy (judged rs ps ns ls (pos (length names / 8)) (pos deskBudget) point deskWork) (searchOf (problemOf rs ps ns ls) deskBudget) names point
 
 -- lists that fit the desk's buffers
 pub record Fronts (rs : List ℤ) (names : List ℕ) : Type 0 where

@@ -1,4 +1,4 @@
--- The answer whose numbers are returned is the one that `solve` gave. The budget goes to it as it came.
+-- The answer whose numbers are returned is the one that `solve` gave. Leading number and budget go to it as they came.
 use borrow.Author.Needs.{needs}
 use mir.Facts.{toZ-ofZ}
 use Rattle.bindings.proofs.ularimpong_solve.Statement.{statement}
@@ -21,7 +21,7 @@ returns c =
     let done = c .before .before .before in
     record {
       solved = done .solve .result;
-      solves = rw (toZ-ofZ (done .before .before .before .fits .budget)) at (done .solve .ensures);
+      solves = rw (toZ-ofZ (done .before .before .before .fits .leading), toZ-ofZ (done .before .before .before .fits .budget)) at (done .solve .ensures);
       numbers = c .solve-numbers .ensures;
     }
 

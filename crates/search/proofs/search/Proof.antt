@@ -24,12 +24,12 @@ use Rattle.search.proofs.search.Statement.{statement}
 use Rattle.search.proofs.search.Tie as tie
 
 abbrev Inv-loop : tie.InvT-loop
-Inv-loop ranges primitives lengths literals budget point₀ work₀ width waiting₀ left₀ point work waiting left =
-    Held (sweepOf (primitivesOf primitives) (clausesOf lengths (literalsOf literals))) (lowest (quantities ranges)) (quantities ranges) (length ranges) ranges (searchOf (problemOf ranges primitives lengths literals) budget) work₀ work left waiting
+Inv-loop ranges primitives lengths literals leading budget point₀ work₀ width waiting₀ left₀ point work waiting left =
+    Held (sweepOf (primitivesOf primitives) (clausesOf lengths (literalsOf literals))) (lowest (quantities ranges)) (quantities ranges) leading (length ranges) ranges (searchOf (problemOf ranges primitives lengths literals) budget) work₀ work left waiting
     × (point ≡ point₀) × (left ≤ budget)
 
 abbrev μ-loop : tie.MeasureT-loop
-μ-loop ranges primitives lengths literals budget point₀ work₀ width waiting₀ left₀ point work waiting left = left
+μ-loop ranges primitives lengths literals leading budget point₀ work₀ width waiting₀ left₀ point work waiting left = left
 
 -- ---- at the loop's head
 module _ (a : tie.At-loop Inv-loop μ-loop) where
@@ -43,9 +43,9 @@ module _ (a : tie.At-loop Inv-loop μ-loop) where
   l₀ = a .before .before .copy .last .1 .0 ++ drop (length rs) (a .before .before .before .before .args .work .now)
 
   abbrev Here : List ℤ → ℕ → ℕ → Type 0
-  Here l k s = Held sweep (lowest (quantities rs)) (quantities rs) (length rs) rs (searchOf (problemOf rs (a .before .before .before .before .args .primitives .now) (a .before .before .before .before .args .lengths .now) (a .before .before .before .before .args .literals .now)) (a .before .before .before .before .args .budget)) l₀ l k s
+  Here l k s = Held sweep (lowest (quantities rs)) (quantities rs) (a .before .before .before .before .args .leading) (length rs) rs (searchOf (problemOf rs (a .before .before .before .before .args .primitives .now) (a .before .before .before .before .args .lengths .now) (a .before .before .before .before .args .literals .now)) (a .before .before .before .before .args .budget)) l₀ l k s
 
-  frame-at : Frame sweep (lowest (quantities rs)) (quantities rs) (length rs) rs l₀
+  frame-at : Frame sweep (lowest (quantities rs)) (quantities rs) (a .before .before .before .before .args .leading) (length rs) rs l₀
   frame-at = frame (a .before .before .before .before .pre) _ (a .before .before .copy .ensures)
 
   l₀-long : length l₀ ≡ length (a .before .before .before .before .args .work .now)

@@ -6,7 +6,7 @@ use lib.ListN.{length, take}
 use lib.IntN.{ℤ}
 use Rattle.whole.specs.inner.Held.{Good}
 use Rattle.problem.specs.Problem.{rangeAt, quantities}
-use Rattle.search.specs.Depth.{depthOf}
+use Rattle.search.specs.Depth.{depth}
 
 -- two slots, a box with quantity q in the first
 pub record Splittable (l : List ℤ) (width q : ℕ) : Type 0 where
@@ -15,6 +15,6 @@ pub record Splittable (l : List ℤ) (width q : ℕ) : Type 0 where
   pub good : Good (rangeAt (take width l) q)
 
 -- r is D, and small
-pub record Deep (rs : List ℤ) (r : ℕ) : Type 0 where
-  pub is : r ≡ depthOf rs
+pub record Deep (lead : ℕ) (rs : List ℤ) (r : ℕ) : Type 0 where
+  pub is : r ≡ depth lead rs
   pub small : r ≤ 41 * quantities rs

@@ -6,7 +6,6 @@ use borrow.Author.Needs.{needs}
 use Rattle.whole.specs.Numbers.{leastPower}
 use Rattle.whole.specs.Ranges.{values}
 use Rattle.whole.specs.declared.Range.{Range}
-use Rattle.problem.specs.Problem.{quantities}
 use Rattle.search.specs.Depth.{depth}
 use Rattle.search.proofs.Deep.{depth-none, depth-more}
 use Rattle.search.proofs.Judged.{started-fine}
@@ -14,16 +13,16 @@ use Rattle.search.proofs.room.depth.Statement.{statement}
 use Rattle.search.proofs.room.depth.Tie as tie
 
 abbrev Inv-loop : tie.InvT-loop
-Inv-loop ranges n sum₀ q₀ sum q = (sum ≡ depth q ranges) × (sum ≤ 41 * q) × (q ≤ n)
+Inv-loop ranges leading sum₀ q₀ sum q = (sum ≡ depth q ranges) × (sum ≤ 41 * q) × (q ≤ leading)
 
 abbrev μ-loop : tie.MeasureT-loop
-μ-loop ranges n sum₀ q₀ sum q = n - q
+μ-loop ranges leading sum₀ q₀ sum q = leading - q
 
 loop-holds : tie.Need-loop-holds Inv-loop μ-loop
 loop-holds c = omega (arith, depth-none (c .args .ranges .now))
 
 range-at-requires : tie.Need-range-at-requires Inv-loop μ-loop
-range-at-requires c κs = (started-fine (c .before .before .pre), omega arith)
+range-at-requires c κs = (started-fine (c .before .before .pre .started), omega (arith, c .before .before .pre .leading))
 
 halvings-requires : tie.Need-halvings-requires Inv-loop μ-loop
 halvings-requires c κs = search needs
@@ -45,7 +44,7 @@ loop-again c =
 
 returns : tie.Need-returns Inv-loop μ-loop
 returns c =
-    let e : c .before .loop .q ≡ quantities (c .before .before .args .ranges .now) = omega arith in
+    let e : c .before .loop .q ≡ c .before .before .args .leading = omega arith in
     record { is = c .before .loop .inv .0 ∙ ap (λ (q : ℕ). depth q (c .before .before .args .ranges .now)) e; small = omega arith }
 
 pub depth-spec : {M : Type 1} → statement M

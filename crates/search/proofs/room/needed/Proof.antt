@@ -15,7 +15,7 @@ add-result : tie.Need-add-result
 add-result c = search needs
 
 mul-result-2 : tie.Need-mul-result-2
-mul-result-2 c = omega (arith, room-small _ _ (c .before .pre .most) (c .depth .ensures .small))
+mul-result-2 c = omega (arith, room-small _ _ (c .before .pre .started .most) (c .depth .ensures .small))
 
 returns : tie.Need-returns
 returns c = rw (c .depth .ensures .is)
