@@ -89,11 +89,11 @@ static int as_the_desk(void)
     return status;
 }
 
-/* The workspace needed: 2n(D+1) numbers. */
-static size_t room(size_t n)
+/* The workspace needed: 2n(D+1) numbers, D being the halvings of the leading ranges. */
+static size_t room(size_t n, size_t leading)
 {
     size_t depth = 0;
-    for (size_t q = 0; q < n; q++)
+    for (size_t q = 0; q < leading; q++)
         for (int64_t above = ranges[2 * q + 1] - ranges[2 * q]; above > 0; above /= 2)
             depth++;
     return 2 * n * (depth + 1);
@@ -118,7 +118,7 @@ static int with_budget(int64_t budget)
         show_line(made.line);
         return status;
     }
-    size_t need = room(made.quantities);
+    size_t need = room(made.quantities, made.declared);
     int64_t *work = calloc(need, sizeof *work);
     if (!work)
         return failed("workspace");
@@ -127,6 +127,7 @@ static int with_budget(int64_t budget)
         primitives, 4 * made.primitives,
         lengths, made.clauses,
         literals, 3 * made.literals,
+        (int64_t)made.declared,
         budget,
         point, made.quantities,
         work, need);

@@ -56,7 +56,7 @@ extern "C" {
 
 typedef struct {
     size_t answer;  /* one of the four above */
-    size_t refusal; /* 1 to 7, or 0 */
+    size_t refusal; /* 1 to 8, or 0 */
     size_t sweeps;  /* the number of sweeps used */
 } ularimpong_solved;
 
@@ -72,17 +72,22 @@ typedef struct {
 
 /* Checks a problem and searches it with at most budget sweeps. Reads the ranges (two
  * numbers a quantity: low, high), the primitives (four each: kind, z, x, y), the lengths
- * of the clauses and their literals (three each: quantity, sense, bound). point must have
- * a number for each of the n quantities, work 2n(D+1) numbers or more, D being the sum
- * over the quantities of the least k with 2^k at least the number of values. Found writes
- * the point, stopped the floor, none leaves point alone; each of them sets the first
- * 2n(D+1) numbers of work to 0. A refusal writes nothing. Returns the answer with the
- * number of sweeps used. */
+ * of the clauses and their literals (three each: quantity, sense, bound). leading, 1 to n,
+ * says how many of the n quantities lead. Each later one must have a range of one value,
+ * or be the result of a primitive over lower-numbered ones: z of any kind, or x or y of a
+ * sum; refusal 8, which goes before 7, says that leading is no such number. n is always
+ * one; for a translated sheet its declared count is. The answer does not depend on it.
+ * point must have a number for each of the n quantities, work 2n(D+1) numbers or more, n
+ * counting all quantities and D being the sum over the leading ones of the least k with
+ * 2^k at least the number of values. Found writes the point, stopped the floor, none
+ * leaves point alone; each of them sets the first 2n(D+1) numbers of work to 0. A refusal
+ * writes nothing. Returns the answer with the number of sweeps used. */
 ularimpong_solved ularimpong_solve(
     const int64_t *ranges, size_t ranges_count,
     const int64_t *primitives, size_t primitives_count,
     const int64_t *lengths, size_t lengths_count,
     const int64_t *literals, size_t literals_count,
+    int64_t leading,
     int64_t budget,
     int64_t *point, size_t point_count,
     int64_t *work, size_t work_count);

@@ -12,6 +12,7 @@ mod subjects;
 use std::path::Path;
 use std::process::ExitCode;
 
+use brute::problems::Problem;
 use measure::{duel, Times};
 use subjects::{Group, Subject};
 use ularimpong::calls;
@@ -62,18 +63,18 @@ fn solves(subjects: &[Subject]) -> Result<Vec<Times>, String> {
 }
 
 fn buffers(subject: &Subject) -> (Vec<i64>, Vec<i64>) {
-    let need = paper::workspace_need(&subject.problem.ranges).1;
+    let need = paper::workspace_need(&subject.problem.ranges, subject.problem.leading).1;
     (vec![0; subject.problem.n()], vec![0; need])
 }
 
 fn library_solve(subject: &Subject, point: &mut [i64], work: &mut [i64]) -> calls::Solved {
-    let p = &subject.problem;
-    calls::solve(&p.ranges, &p.primitives, &p.lengths, &p.literals, subject.budget, point, work)
+    let Problem { ranges, primitives, lengths, literals, leading } = &subject.problem;
+    calls::solve(ranges, primitives, lengths, literals, *leading, subject.budget, point, work)
 }
 
 fn paper_solve(subject: &Subject, point: &mut [i64], work: &mut [i64]) -> paper::Solved {
-    let p = &subject.problem;
-    paper::solve(&p.ranges, &p.primitives, &p.lengths, &p.literals, subject.budget, point, work)
+    let Problem { ranges, primitives, lengths, literals, leading } = &subject.problem;
+    paper::solve(ranges, primitives, lengths, literals, *leading, subject.budget, point, work)
 }
 
 fn agreed_sweeps(subject: &Subject) -> Result<usize, String> {

@@ -30,12 +30,12 @@ pub struct SheetText {
     pub text: Vec<u8>,
 }
 
-/// The problems that are made here.
+/// The problems that are made here. All their quantities lead.
 pub fn made() -> Vec<Subject> {
-    let subject = |name: &str, group, problem, budget| Subject {
+    let subject = |name: &str, group, problem: Problem, budget| Subject {
         name: name.to_string(),
         group,
-        problem,
+        problem: Problem { leading: problem.n() as i64, ..problem },
         budget,
     };
     let plain = |name, problem, budget| subject(name, Group::Made, problem, budget);
@@ -81,11 +81,13 @@ pub fn sheets() -> Vec<Subject> {
     let subject = |sheet: SheetText| {
         let accepted = Sheet::read(&sheet.text).ok()?;
         let lists = accepted.problem().clone();
+        let leading = lists.leading();
         let problem = Problem {
             ranges: lists.ranges,
             primitives: lists.primitives,
             lengths: lists.lengths,
             literals: lists.literals,
+            leading,
         };
         Some(Subject { name: sheet.name, group: Group::Sheet, problem, budget: DESK_BUDGET })
     };

@@ -20,6 +20,7 @@ pub fn all() -> Vec<Case> {
     narrowing_examples(&mut list);
     search_slips(&mut list);
     solve_limits(&mut list);
+    leading_limits(&mut list);
     buffer_rules(&mut list);
     text_limits(&mut list);
     versions(&mut list);
@@ -108,22 +109,31 @@ struct Given {
     primitives: Vec<i64>,
     lengths: Vec<i64>,
     literals: Vec<i64>,
+    leading: i64,
     budget: i64,
     point: Vec<i64>,
     work: Vec<i64>,
 }
 
 impl Given {
+    /// All quantities lead, and the buffers are large enough.
     fn new(ranges: &[i64], primitives: &[i64]) -> Given {
+        let leading = ranges.len() as i64 / 2;
         Given {
             ranges: ranges.to_vec(),
             primitives: primitives.to_vec(),
             lengths: Vec::new(),
             literals: Vec::new(),
+            leading,
             budget: 1_000,
             point: vec![77; ranges.len() / 2],
-            work: vec![77; workspace_need(ranges).1 + 5],
+            work: vec![77; workspace_need(ranges, leading).1 + 5],
         }
+    }
+
+    fn leading(mut self, leading: i64) -> Given {
+        self.leading = leading;
+        self
     }
 
     fn clause(mut self, literals: &[i64]) -> Given {
@@ -150,6 +160,7 @@ impl Given {
             &self.primitives,
             &self.lengths,
             &self.literals,
+            self.leading,
             self.budget,
             &mut self.point,
             &mut self.work,
@@ -185,7 +196,8 @@ const FIRST: &str = "range w 1 10\nrange h 1 10\nmust w * h = 35\nmust w < h";
 fn desk_examples(list: &mut List) {
     list.desk(FIRST, "FOUND 6\nw 5\nh 7\n");
     let p1 = [1, 10, 1, 10, 1, 100, 35, 35, -34, 65, -9, 9];
-    list.add("P1: n 6, D 27, workspace 336", workspace_need(&p1) == (27, 336));
+    list.add("P1: n 6, two lead, D 8, workspace 108", workspace_need(&p1, 2) == (8, 108));
+    list.add("P1: n 6, all lead, D 27, workspace 336", workspace_need(&p1, 6) == (27, 336));
     list.add("P1: the lists", p1_lists_are(&p1));
     list.desk("range x 0 3\nmust x ^2 = 2", "NONE 3\n");
     list.desk("range x 0 3\nrange y 0 3\nmust x + y = 3", "FOUND 7\nx 0\ny 3\n");
@@ -376,6 +388,64 @@ fn solve_limits(list: &mut List) {
     list.refusal("point too short", &with(&|g| g.point.truncate(1)), 7);
     list.sound("workspace just enough", &with(&|g| g.work.truncate(12)));
     list.refusal("workspace too short", &with(&|g| g.work.truncate(11)), 7);
+}
+
+/// Refusal 8 on both sides, and the room that leading quantities need.
+fn leading_limits(list: &mut List) {
+    let base = Given::new(&[0, 1, 0, 1, 4, 4], &[]);
+    for leading in [i64::MIN, -1, 0, 1, 4, 5, (1 << 32) + 2, i64::MAX] {
+        list.refusal(&format!("leading {leading}"), &base.clone().leading(leading), 8);
+    }
+    list.sound("the rest is one value", &base.clone().leading(2));
+    list.sound("all lead", &base.clone().leading(3));
+    let three = [0, 1, 0, 1, 0, 1];
+    let two_lead = |primitives: &[i64]| Given::new(&three, primitives).leading(2);
+    for good in [
+        &[1, 2, 0, 1][..],
+        &[1, 2, 1, 1],
+        &[1, 0, 2, 1],
+        &[1, 0, 1, 2],
+        &[2, 2, 0, 1],
+        &[3, 2, 1, 0],
+        &[2, 0, 2, 2, 3, 2, 0, 0],
+    ] {
+        list.sound(&format!("{good:?} defines 2"), &two_lead(good));
+    }
+    for bad in [
+        &[][..],
+        &[2, 0, 2, 1],
+        &[2, 0, 1, 2],
+        &[3, 0, 2, 0],
+        &[1, 2, 2, 0],
+        &[1, 2, 0, 2],
+        &[1, 0, 2, 2],
+        &[2, 2, 2, 0],
+        &[3, 2, 2, 0],
+        &[1, 1, 0, 0],
+    ] {
+        list.refusal(&format!("{bad:?} does not define 2"), &two_lead(bad), 8);
+    }
+    let one_leads = |primitives: &[i64]| Given::new(&three, primitives).leading(1);
+    list.sound("1 of 0, 2 of 1", &one_leads(&[1, 2, 0, 1, 1, 1, 0, 0]));
+    list.refusal("1 of 2, which is higher", &one_leads(&[1, 2, 0, 0, 1, 1, 0, 2]), 8);
+    let short = |mut given: Given| {
+        given.work.clear();
+        given
+    };
+    list.refusal("8 before 7", &short(base.clone().leading(1)), 8);
+    list.refusal("7 alone", &short(base.clone().leading(2)), 7);
+    list.refusal("6 before 8", &base.leading(0).budget(-1), 6);
+    let p1 = [1, 10, 1, 10, 1, 100, 35, 35, -34, 65, -9, 9];
+    let equations = [2, 2, 0, 1, 1, 2, 4, 3, 1, 0, 5, 1];
+    for (leading, need) in [(2, 108), (6, 336)] {
+        let with_room = |room: usize| {
+            let mut given = Given::new(&p1, &equations).leading(leading);
+            given.work.resize(room, 77);
+            given
+        };
+        list.sound(&format!("P1 with {leading} leading in {need}"), &with_room(need));
+        list.refusal(&format!("P1 with {leading} leading"), &with_room(need - 1), 7);
+    }
 }
 
 /// What the buffers hold afterwards.

@@ -12,12 +12,14 @@ pub enum Outcome {
     Stopped(Vec<i64>),
 }
 
-/// The outcome, the sweeps used, and the most boxes that ever waited.
+/// The outcome, the sweeps used, the most boxes that ever waited, and how many
+/// quantities there are up to the last one that was ever split.
 #[derive(Clone, Debug, PartialEq, Eq)]
 pub struct Run {
     pub outcome: Outcome,
     pub sweeps: i64,
     pub most_waiting: usize,
+    pub split: usize,
 }
 
 /// The refusal of a solve, if any: each ground in turn, in wide numbers.
@@ -56,19 +58,52 @@ pub fn refusal(problem: &Problem, budget: i64, point: usize, work: usize) -> Opt
     if !(0..=1_000_000_000).contains(&budget) {
         return Some(6);
     }
-    (point != n || work < 2 * n * (depth(problem) + 1)).then_some(7)
+    if problem.leading < 1
+        || i128::from(problem.leading) > n as i128
+        || (problem.leading as usize..n).any(|later| !is_defined(problem, later))
+    {
+        return Some(8);
+    }
+    (point != n || work < need(problem)).then_some(7)
+}
+
+/// Whether a quantity has a one-value range, or is the result of a primitive
+/// over lower-numbered ones: z of any kind, or x or y of a sum.
+pub fn is_defined(problem: &Problem, quantity: usize) -> bool {
+    let q = quantity as i64;
+    let is_lower = |others: &[i64]| others.iter().all(|&other| other < q);
+    let is_result = |p: &[i64]| {
+        let (kind, z, x, y) = (p[0], p[1], p[2], p[3]);
+        match kind {
+            1 => {
+                (z == q && is_lower(&[x, y]))
+                    || (x == q && is_lower(&[z, y]))
+                    || (y == q && is_lower(&[z, x]))
+            }
+            2 => z == q && is_lower(&[x, y]),
+            _ => z == q && is_lower(&[x]),
+        }
+    };
+    problem.ranges[2 * quantity] == problem.ranges[2 * quantity + 1]
+        || problem.primitives.chunks(4).any(is_result)
 }
 
 type Range = (i128, i128);
 type Ranges = Vec<Range>;
 
-/// The sum over all quantities of the least k with 2^k at least the number of values.
+/// The sum over the leading quantities of the least k with 2^k at least the
+/// number of values.
 pub fn depth(problem: &Problem) -> usize {
     let least = |range: &[i64]| {
         let values = i128::from(range[1]) - i128::from(range[0]) + 1;
         (0..).find(|&k| (1i128 << k) >= values).unwrap_or(0) as usize
     };
-    problem.ranges.chunks(2).map(least).sum()
+    problem.ranges.chunks(2).take(problem.leading.max(0) as usize).map(least).sum()
+}
+
+/// The workspace needed: 2n(D+1) numbers.
+pub fn need(problem: &Problem) -> usize {
+    2 * problem.n() * (depth(problem) + 1)
 }
 
 /// Searches a sound problem with at most `budget` sweeps.
@@ -77,6 +112,7 @@ pub fn run(problem: &Problem, budget: i64) -> Run {
         problem.ranges.chunks(2).map(|range| (range[0].into(), range[1].into())).collect();
     let mut waiting: Vec<Ranges> = Vec::new();
     let mut most_waiting = 0;
+    let mut split = 0;
     let mut sweeps = 0;
     let outcome = loop {
         if sweeps == budget {
@@ -99,9 +135,10 @@ pub fn run(problem: &Problem, budget: i64) -> Run {
             current[open].1 = middle;
             waiting.push(upper);
             most_waiting = most_waiting.max(waiting.len());
+            split = split.max(open + 1);
         }
     };
-    Run { outcome, sweeps, most_waiting }
+    Run { outcome, sweeps, most_waiting, split }
 }
 
 fn lows(ranges: &Ranges) -> Vec<i64> {

@@ -1,15 +1,17 @@
 //! Problems and random ones: small, extreme and damaged.
 
+use crate::plain;
 use crate::random::Random;
 use crate::M;
 
-/// The four lists of a problem.
+/// The four lists of a problem, and how many of its quantities lead.
 #[derive(Clone, Debug, Default, PartialEq, Eq)]
 pub struct Problem {
     pub ranges: Vec<i64>,
     pub primitives: Vec<i64>,
     pub lengths: Vec<i64>,
     pub literals: Vec<i64>,
+    pub leading: i64,
 }
 
 impl Problem {
@@ -28,6 +30,9 @@ pub fn small(random: &mut Random) -> Problem {
         let low = random.between(-9, 9);
         problem.ranges.extend([low, low + random.between(0, widest - 1)]);
     }
+    if random.once_in(2) {
+        define_later_ones(random, &mut problem);
+    }
     add_primitives(random, &mut problem, 4);
     if random.once_in(4) {
         put_zero_at_an_end(random, &mut problem, |random| random.between(1, 9));
@@ -36,26 +41,99 @@ pub fn small(random: &mut Random) -> Problem {
         fit_to_a_point(random, &mut problem);
     }
     add_clauses(random, &mut problem, |random| random.between(-12, 12));
+    problem.leading = sound_leading(random, &problem);
     problem
 }
 
-/// Stretches the range of each equation's z to take in its value at a point
-/// of the ranges, as far as it stays small.
+/// Gives each quantity behind some number of them one value or a primitive that
+/// makes it of lower-numbered ones.
+fn define_later_ones(random: &mut Random, problem: &mut Problem) {
+    let n = problem.n();
+    for later in 1 + random.below(n)..n {
+        if random.once_in(6) {
+            problem.ranges[2 * later + 1] = problem.ranges[2 * later];
+        } else {
+            let primitive = defining(random, later);
+            problem.primitives.extend(primitive);
+        }
+    }
+}
+
+/// A primitive that makes a quantity of lower-numbered ones.
+fn defining(random: &mut Random, quantity: usize) -> [i64; 4] {
+    let q = quantity as i64;
+    let (a, b) = (random.below(quantity) as i64, random.below(quantity) as i64);
+    *random.pick(&[[1, q, a, b], [1, a, q, b], [1, a, b, q], [2, q, a, b], [3, q, a, 0]])
+}
+
+/// A leading number that ground 8 allows: all quantities, the least that there
+/// is, or one between.
+pub fn sound_leading(random: &mut Random, problem: &Problem) -> i64 {
+    let n = problem.n() as i64;
+    let least = least_leading(problem);
+    let between = random.between(least, n);
+    *random.pick(&[n, least, between])
+}
+
+/// The least leading number that ground 8 allows.
+pub fn least_leading(problem: &Problem) -> i64 {
+    let last = (1..problem.n()).rev().find(|&later| !plain::is_defined(problem, later));
+    last.map_or(1, |undefined| undefined as i64 + 1)
+}
+
+/// A sound problem whose leading number may then be one too low, too high or
+/// far off, and one of whose primitives may be turned a little.
+pub fn near_leading(random: &mut Random) -> Problem {
+    let mut problem = if random.once_in(2) { small(random) } else { extreme(random) };
+    let n = problem.n() as i64;
+    if !problem.primitives.is_empty() && random.once_in(2) {
+        turn_a_primitive(random, &mut problem);
+    }
+    let least = least_leading(&problem);
+    let far = *random.pick(&[0, -1, i64::MIN, i64::MAX, n + 1, -n, 1 << 32, (1 << 32) + n]);
+    problem.leading = match random.below(8) {
+        0 => n,
+        1 | 2 => least,
+        3 | 4 => least - 1,
+        5 => random.between(1, n),
+        6 => random.between(0, n + 1),
+        _ => far,
+    };
+    problem
+}
+
+/// Gives a primitive another kind or another quantity in one of its places.
+fn turn_a_primitive(random: &mut Random, problem: &mut Problem) {
+    let n = problem.n();
+    let place = 4 * random.below(problem.primitives.len() / 4);
+    let part = random.below(4);
+    let number = if part == 0 { random.between(1, 3) } else { random.below(n) as i64 };
+    problem.primitives[place + part] = number;
+    if problem.primitives[place] == 3 {
+        problem.primitives[place + 3] = 0;
+    }
+}
+
+/// Stretches the range of each equation's result to take in its value at a point
+/// of the ranges, as far as it stays small. The result is z, but in a sum a
+/// higher-numbered x or y.
 fn fit_to_a_point(random: &mut Random, problem: &mut Problem) {
     let mut point: Vec<i64> =
         problem.ranges.chunks(2).map(|range| random.between(range[0], range[1])).collect();
     for p in problem.primitives.chunks(4) {
-        let (z, x, y) = (p[1] as usize, point[p[2] as usize], point[p[3] as usize]);
-        let value = match p[0] {
-            1 => x + y,
-            2 => x * y,
-            _ => x * x,
+        let [z, x, y] = [p[1] as usize, p[2] as usize, p[3] as usize];
+        let (result, value, others) = match p[0] {
+            1 if x > z => (x, point[z] - point[y], [z, y]),
+            1 if y > z => (y, point[z] - point[x], [z, x]),
+            1 => (z, point[x] + point[y], [x, y]),
+            2 => (z, point[x] * point[y], [x, y]),
+            _ => (z, point[x] * point[x], [x, x]),
         };
-        if value.abs() <= 50 && z != p[2] as usize && (p[0] == 3 || z != p[3] as usize) {
+        if value.abs() <= 50 && !others.contains(&result) {
             let low = value - random.between(0, 2);
-            point[z] = value;
-            problem.ranges[2 * z] = low;
-            problem.ranges[2 * z + 1] = value + random.between(0, 2);
+            point[result] = value;
+            problem.ranges[2 * result] = low;
+            problem.ranges[2 * result + 1] = value + random.between(0, 2);
         }
     }
 }
@@ -70,16 +148,20 @@ pub fn extreme(random: &mut Random) -> Problem {
         let b = if random.once_in(3) { (a + random.between(0, 20)).min(M) } else { b };
         problem.ranges.extend([a.min(b), a.max(b)]);
     }
+    if random.once_in(2) {
+        define_later_ones(random, &mut problem);
+    }
     add_primitives(random, &mut problem, 6);
     if random.once_in(4) {
         put_zero_at_an_end(random, &mut problem, |random| notable(random).abs().max(1));
     }
     add_clauses(random, &mut problem, notable);
+    problem.leading = sound_leading(random, &problem);
     problem
 }
 
 /// Gives a factor of some product a range that ends in 0, and its z one on
-/// one side of 0.
+/// one side of 0. Half the time the other factor gets one with 0 inside.
 fn put_zero_at_an_end(
     random: &mut Random,
     problem: &mut Problem,
@@ -91,7 +173,11 @@ fn put_zero_at_an_end(
         return;
     }
     let [z, x, y] = *random.pick(&products);
-    let factor = if random.once_in(2) { x } else { y };
+    let (factor, other) = if random.once_in(2) { (x, y) } else { (y, x) };
+    if random.once_in(2) {
+        let range = [-reach(random), reach(random)];
+        problem.ranges[2 * other as usize..][..2].copy_from_slice(&range);
+    }
     for (quantity, nearest) in [(z, 1), (factor, 0)] {
         let far = reach(random);
         let range = if random.once_in(2) { [nearest, far] } else { [-far, -nearest] };
@@ -169,7 +255,12 @@ pub fn arbitrary(random: &mut Random) -> Problem {
     if random.once_in(2) {
         lengths = vec![literals.len() as i64 / 3];
     }
-    Problem { ranges, primitives, lengths, literals }
+    let leading = match random.below(3) {
+        0 => any_number(random, false),
+        1 => random.between(0, 3),
+        _ => ranges.len() as i64 / 2,
+    };
+    Problem { ranges, primitives, lengths, literals, leading }
 }
 
 fn any_number(random: &mut Random, is_tame: bool) -> i64 {
@@ -189,20 +280,23 @@ pub struct Damaged {
     pub refusal: u8,
 }
 
-/// Does one to three of the seven kinds of damage to a problem. They are done
-/// from the highest number down, so that the lowest is surely left standing;
-/// and each kind brings in no fault with a lower number than its own.
+/// The grounds of a solve in the order in which they are looked at.
+const ORDER: [u8; 8] = [1, 2, 3, 4, 5, 6, 8, 7];
+
+/// Does one to three of the eight kinds of damage to a problem. They are done
+/// from the last ground to the first, so that the first is surely left standing;
+/// and each kind brings in no fault that is looked at before its own.
 pub fn damaged(random: &mut Random, problem: Problem, need: usize) -> Damaged {
     let point = problem.n();
-    let mut case = Damaged { problem, budget: random.between(0, 9), point, work: need, refusal: 8 };
-    let mut numbers: Vec<u8> =
-        (0..1 + random.below(3)).map(|_| 1 + random.below(7) as u8).collect();
-    numbers.sort_unstable_by(|a, b| b.cmp(a));
+    let mut case = Damaged { problem, budget: random.between(0, 9), point, work: need, refusal: 0 };
+    let mut places: Vec<usize> =
+        (0..1 + random.below(3)).map(|_| random.below(ORDER.len())).collect();
+    places.sort_unstable_by(|a, b| b.cmp(a));
     // The same kind twice could undo itself.
-    numbers.dedup();
-    for number in numbers {
-        damage(random, &mut case, number);
-        case.refusal = number;
+    places.dedup();
+    for place in places {
+        damage(random, &mut case, ORDER[place]);
+        case.refusal = ORDER[place];
     }
     case
 }
@@ -215,6 +309,7 @@ fn damage(random: &mut Random, case: &mut Damaged, number: u8) {
         4 => damage_primitive(random, &mut case.problem),
         5 => damage_literal(random, &mut case.problem),
         6 => case.budget = *random.pick(&[-1, 1_000_000_001, i64::MIN, i64::MAX]),
+        8 => damage_leading(random, &mut case.problem),
         _ => damage_buffers(random, case),
     }
 }
@@ -293,6 +388,20 @@ fn damage_literal(random: &mut Random, problem: &mut Problem) {
     };
     problem.lengths.insert(0, 1);
     problem.literals.splice(0..0, literal);
+}
+
+/// A leading number outside 1 to n, or a last quantity that nothing defines.
+fn damage_leading(random: &mut Random, problem: &mut Problem) {
+    let n = problem.n() as i64;
+    if random.once_in(2) {
+        let far = [0, -1, n + 1, -n, 1 << 32, (1 << 32) + n, i64::MIN, i64::MAX];
+        problem.leading = *random.pick(&far);
+    } else {
+        problem.ranges.extend([0, 1]);
+        let open = [vec![], vec![1, n, n, 0], vec![1, 0, n, n], vec![2, 0, n, 0], vec![3, 0, n, 0]];
+        problem.primitives.extend(random.pick(&open));
+        problem.leading = random.between(1, n);
+    }
 }
 
 fn damage_buffers(random: &mut Random, case: &mut Damaged) {

@@ -64,13 +64,16 @@ impl Given<'_> {
     }
 
     fn compared(&self) -> Result<Kind, String> {
-        let Problem { ranges, primitives, lengths, literals } = self.problem;
+        let Problem { ranges, primitives, lengths, literals, leading } = self.problem;
+        let (leading, budget) = (*leading, self.budget);
         let mut ours = (Guarded::numbers(self.point), Guarded::numbers(self.work));
         let mut theirs = ours.clone();
         let (point, work) = (ours.0.lent(), ours.1.lent());
-        let library = calls::solve(ranges, primitives, lengths, literals, self.budget, point, work);
+        let library =
+            calls::solve(ranges, primitives, lengths, literals, leading, budget, point, work);
         let (point, work) = (theirs.0.lent(), theirs.1.lent());
-        let paper = paper::solve(ranges, primitives, lengths, literals, self.budget, point, work);
+        let paper =
+            paper::solve(ranges, primitives, lengths, literals, leading, budget, point, work);
         let answer = library.answer.map_err(Ground::number);
         same("the answer", answer, paper.answer.map(as_ours).map_err(usize::from))?;
         same("the sweep count", library.sweeps as i64, paper.sweeps)?;
@@ -95,7 +98,7 @@ fn as_ours(answer: paper::Answer) -> calls::Answer {
 
 /// A solve with buffers of the right size, the workspace sometimes longer.
 pub fn solve_agrees(random: &mut Random, problem: &Problem, budget: i64) -> Result<Kind, String> {
-    let need = paper::workspace_need(&problem.ranges).1;
+    let need = paper::workspace_need(&problem.ranges, problem.leading).1;
     let work = need + random.below(2) * random.below(9);
     Given { problem, budget, point: problem.n(), work }.agrees()
 }
@@ -147,12 +150,13 @@ impl Lent {
             primitives: self.primitives.front(4 * counts.primitives).to_vec(),
             lengths: self.lengths.front(counts.clauses).to_vec(),
             literals: self.literals.front(3 * counts.literals).to_vec(),
+            leading: counts.declared as i64,
         }
     }
 }
 
 /// Translates a text on both sides, with lists of these sizes. Gives the
-/// problem of an accepted sheet.
+/// problem of an accepted sheet, with its declared quantities leading.
 pub fn translate_agrees(text: &[u8], sizes: Sizes) -> Result<Result<Problem, Fault>, String> {
     let mut ours = Lent::new(sizes);
     let mut theirs = ours.clone();

@@ -3,8 +3,9 @@
 use std::collections::BTreeMap;
 use std::path::Path;
 
+use brute::problems::{self, Problem};
 use brute::random::Random;
-use brute::{problems, sheets, tree};
+use brute::{sheets, tree};
 
 use crate::both::{answer_agrees, line_agrees, solve_agrees, translate_agrees, Given, Kind, FULL};
 use crate::{lists, report, texts};
@@ -19,7 +20,7 @@ pub struct Group {
     pub check: fn(&mut Random) -> Result<Kind, String>,
 }
 
-pub const GROUPS: [Group; 18] = [
+pub const GROUPS: [Group; 19] = [
     Group { name: "small problems", cases: 100_000, check: small_problem },
     Group { name: "extreme numbers", cases: 100_000, check: extreme_problem },
     Group { name: "damaged problems", cases: 100_000, check: damaged_problem },
@@ -38,6 +39,7 @@ pub const GROUPS: [Group; 18] = [
     Group { name: "lists of any size", cases: 20_000, check: list_sizes },
     Group { name: "lines of texts", cases: 100_000, check: line_of_text },
     Group { name: "default ranges", cases: 50_000, check: default_ranges },
+    Group { name: "leading numbers near their limits", cases: 100_000, check: near_leading },
 ];
 
 fn small_problem(random: &mut Random) -> Result<Kind, String> {
@@ -55,7 +57,7 @@ fn extreme_problem(random: &mut Random) -> Result<Kind, String> {
 fn damaged_problem(random: &mut Random) -> Result<Kind, String> {
     let problem =
         if random.once_in(2) { problems::small(random) } else { problems::extreme(random) };
-    let need = paper::workspace_need(&problem.ranges).1;
+    let need = paper::workspace_need(&problem.ranges, problem.leading).1;
     let case = problems::damaged(random, problem, need);
     let problem = &case.problem;
     Given { problem, budget: case.budget, point: case.point, work: case.work }.agrees()
@@ -63,13 +65,23 @@ fn damaged_problem(random: &mut Random) -> Result<Kind, String> {
 
 fn arbitrary_lists(random: &mut Random) -> Result<Kind, String> {
     let problem = problems::arbitrary(random);
+    refused_or_solved(random, &problem)
+}
+
+fn near_leading(random: &mut Random) -> Result<Kind, String> {
+    let problem = problems::near_leading(random);
+    refused_or_solved(random, &problem)
+}
+
+/// A problem that may be refused, with buffers that are mostly right.
+fn refused_or_solved(random: &mut Random, problem: &Problem) -> Result<Kind, String> {
     let budget = if random.once_in(20) { random.bits() as i64 } else { random.between(0, 40) };
     // A sound problem must not be given a budget that takes for ever.
     let budget = if (0..=1_000_000_000).contains(&budget) { budget.min(1_000) } else { budget };
-    let need = paper::workspace_need(&problem.ranges).1;
+    let need = paper::workspace_need(&problem.ranges, problem.leading).1;
     let point = problem.n() + random.below(20) / 19;
     let work = (need + 3).saturating_sub(random.below(10) / 9 * 4);
-    Given { problem: &problem, budget, point, work }.agrees()
+    Given { problem, budget, point, work }.agrees()
 }
 
 fn full_problem(random: &mut Random) -> Result<Kind, String> {
@@ -84,6 +96,18 @@ fn long_search(random: &mut Random) -> Result<Kind, String> {
     solve_agrees(random, &problem, budget)
 }
 
+/// A sheet's problem with another leading number: more quantities than the
+/// declared ones, which is allowed, or now and then anything near.
+fn led_otherwise(random: &mut Random, problem: &Problem) -> Problem {
+    let n = problem.n() as i64;
+    let leading = if random.once_in(8) {
+        random.between(-1, n + 1)
+    } else {
+        random.between(problem.leading, n)
+    };
+    Problem { leading, ..problem.clone() }
+}
+
 /// A sheet through every call: translated, solved with some budget, answered
 /// as the desk does, and the line at fault read.
 fn sheet_agrees(random: &mut Random, text: &[u8]) -> Result<Kind, String> {
@@ -96,7 +120,8 @@ fn sheet_agrees(random: &mut Random, text: &[u8]) -> Result<Kind, String> {
         }
     };
     let budget = random.between(0, 30);
-    solve_agrees(random, &problem, budget)?;
+    let led = led_otherwise(random, &problem);
+    solve_agrees(random, &led, budget)?;
     let kind = solve_agrees(random, &problem, QUICK)?;
     if kind != Kind::Stopped || random.once_in(100) {
         answer_agrees(text)?;

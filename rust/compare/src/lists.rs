@@ -1,7 +1,7 @@
 //! Problems that the smaller generators don't reach: lists up to their full
 //! sizes, and searches with many splits.
 
-use brute::problems::{notable, Problem};
+use brute::problems::{notable, sound_leading, Problem};
 use brute::random::Random;
 use brute::M;
 
@@ -37,6 +37,7 @@ pub fn full(random: &mut Random) -> Problem {
             add_clause(random, &mut problem, length);
         }
     }
+    problem.leading = sound_leading(random, &problem);
     problem
 }
 
@@ -118,5 +119,6 @@ pub fn long_search(random: &mut Random) -> Problem {
         let length = 2 + random.below(3);
         add_clause(random, &mut problem, length);
     }
+    problem.leading = sound_leading(random, &problem);
     problem
 }

@@ -32,6 +32,7 @@ pub fn answer(sheet: &[u8]) -> Vec<u8> {
         &primitives[..4 * equations],
         &lengths[..clauses],
         &literals[..3 * places],
+        declared as i64,
         DESK_BUDGET,
         &mut point[..quantities],
         &mut work,

@@ -1,5 +1,5 @@
-//! Problems, sheets and the desk program, written straight from document 01, with versions, K, M and G and the zero at
-//! the end of a divisor's range as document 02 has them.
+//! Problems, sheets and the desk program, written straight from document 01, with versions, K, M and G, the zero at
+//! the end of a divisor's range and leading quantities as document 02 has them.
 //!
 //! * [`solve`] checks a problem (lists of numbers) and searches it,
 //! * [`translate`] turns a sheet (text) into a problem,

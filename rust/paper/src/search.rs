@@ -12,14 +12,15 @@ pub enum Answer {
     Stopped,
 }
 
-/// The answer, or the number of the refusal (1 to 7), with the sweeps used.
+/// The answer, or the number of the refusal (1 to 8), with the sweeps used.
 #[derive(Clone, Copy, Debug, PartialEq, Eq)]
 pub struct Solved {
     pub answer: Result<Answer, u8>,
     pub sweeps: i64,
 }
 
-/// Checks a problem and searches it with at most `budget` sweeps.
+/// Checks a problem, of whose quantities the first `leading` ones lead, and
+/// searches it with at most `budget` sweeps.
 ///
 /// Found writes the point, stopped the floor; none leaves `point` alone. A
 /// refusal leaves both buffers alone; every other answer clears the needed
@@ -29,12 +30,13 @@ pub fn solve(
     primitives: &[i64],
     lengths: &[i64],
     literals: &[i64],
+    leading: i64,
     budget: i64,
     point: &mut [i64],
     work: &mut [i64],
 ) -> Solved {
     let lists = Lists { ranges, primitives, lengths, literals };
-    match check(&lists, budget, point.len(), work.len()) {
+    match check(&lists, leading, budget, point.len(), work.len()) {
         Err(number) => Solved { answer: Err(number), sweeps: 0 },
         Ok(need) => {
             let work = &mut work[..need];
@@ -115,6 +117,8 @@ impl<'a> Constraints<'a> {
 
 /// Runs a checked problem. The waiting boxes lie one behind the other in
 /// `work`; there are never more than D of them, and `work` has room for D + 1.
+/// D counts the leading ranges only: where these have one value each and a
+/// sweep changed nothing, so has each later one, and is never split.
 fn search(
     constraints: &Constraints,
     ranges: &[i64],

@@ -16,8 +16,9 @@ fn desk_of(mark: &str, body: &str) -> String {
 fn solved(ranges: &[i64], primitives: &[i64], literals: &[i64], budget: i64) -> (Solved, Vec<i64>) {
     let lengths = vec![1; literals.len() / 3];
     let mut point = vec![77; ranges.len() / 2];
-    let mut work = vec![77; workspace_need(ranges).1];
-    let solved = solve(ranges, primitives, &lengths, literals, budget, &mut point, &mut work);
+    let n = point.len() as i64;
+    let mut work = vec![77; workspace_need(ranges, n).1];
+    let solved = solve(ranges, primitives, &lengths, literals, n, budget, &mut point, &mut work);
     assert!(work.iter().all(|&number| number == 0));
     (solved, point)
 }
@@ -48,7 +49,44 @@ fn p1_the_first_sheet() {
     assert_eq!(lengths[..4], [1, 1, 1, 9]);
     assert_eq!(literals[..10], [4, 0, 0, 4, 1, 0, 5, 0, -1, 9]);
     assert_eq!(&names[..17], b"w       h       9");
-    assert_eq!(workspace_need(&ranges[..12]), (27, 336));
+    assert_eq!(workspace_need(&ranges[..12], 2), (8, 108));
+    assert_eq!(workspace_need(&ranges[..12], 6), (27, 336));
+}
+
+/// P1's problem with some of its quantities leading and a workspace of some
+/// length; 7 where the workspace is one too short.
+#[test]
+fn p1_with_leading_quantities() {
+    let ranges = [1, 10, 1, 10, 1, 100, 35, 35, -34, 65, -9, 9];
+    let primitives = [2, 2, 0, 1, 1, 2, 4, 3, 1, 0, 5, 1];
+    let literals = [4, 0, 0, 4, 1, 0, 5, 0, -1];
+    let with = |leading: i64, work: usize| {
+        let (mut point, mut work) = ([77; 6], vec![77; work]);
+        let solved = solve(
+            &ranges,
+            &primitives,
+            &[1, 1, 1],
+            &literals,
+            leading,
+            100_000,
+            &mut point,
+            &mut work,
+        );
+        (solved, point, work)
+    };
+    let found = Solved { answer: Ok(Answer::Found), sweeps: 6 };
+    // D is 4 for w and h each, 7 for their product, 0, 7 and 5 for the others.
+    for (leading, need) in [(2, 108), (3, 192), (4, 192), (5, 276), (6, 336)] {
+        let mut cleared = vec![0; need];
+        cleared.push(77);
+        assert_eq!(with(leading, need + 1), (found, [5, 7, 35, 35, 0, -2], cleared));
+        let refused = Solved { answer: Err(7), sweeps: 0 };
+        assert_eq!(with(leading, need - 1), (refused, [77; 6], vec![77; need - 1]));
+    }
+    for leading in [i64::MIN, -1, 0, 1, 7, i64::MAX] {
+        let refused = Solved { answer: Err(8), sweeps: 0 };
+        assert_eq!(with(leading, 0), (refused, [77; 6], vec![]), "{leading}");
+    }
 }
 
 #[test]

@@ -3,10 +3,11 @@
 use brute::plain::Outcome;
 use brute::problems::{self, Problem};
 use brute::random::Random;
+use brute::sheets;
 use brute::tree::{self, Sheet};
-use brute::{plain, sheets};
 use paper::{Answer, Translated};
 
+use crate::ground;
 use crate::model;
 use crate::short;
 use crate::slip::{Slip, ALL};
@@ -17,6 +18,11 @@ const LARGE_BUDGET: i64 = 1_000_000_000;
 /// No case that needs more sweeps, or more bytes to write, is worth its time.
 const MOST_SWEEPS: i64 = 300;
 const MOST_BYTES: usize = 170;
+/// The gate has room for no longer lists of a problem.
+const MOST_PRIMITIVES: usize = 32;
+const MOST_LITERALS: usize = 64;
+/// How many more numbers of workspace the gate lends than are cleared.
+const MORE: usize = 3;
 /// What the point buffer holds before a call.
 const NOISE: i64 = 7_777_777;
 
@@ -57,10 +63,10 @@ pub struct Lists {
 /// The problem of a seed, if it is fit to be kept.
 pub fn problem(seed: u64) -> Option<Case> {
     let mut random = Random::new(seed);
-    let mut problem = if random.once_in(4) {
-        problems::extreme(&mut random)
-    } else {
-        problems::small(&mut random)
+    let mut problem = match random.below(8) {
+        0 | 1 => problems::extreme(&mut random),
+        2 => problems::near_leading(&mut random),
+        _ => problems::small(&mut random),
     };
     if random.once_in(4) {
         repeat_a_literal(&mut random, &mut problem);
@@ -72,14 +78,18 @@ pub fn problem(seed: u64) -> Option<Case> {
         _ if needed < MOST_SWEEPS => LARGE_BUDGET,
         _ => needed,
     };
-    let run = solved(&problem, budget);
-    let line = problem_line(&problem, budget, &run);
-    let right = seen(&run, problem.n());
+    let given = Given { problem, budget };
+    let (right, cleared) = given.solved();
+    let line = given.line(&right, cleared);
     // A slipped search that goes on past the right count is not followed to its end.
-    let budget = budget.min(run.1 + 1);
-    let slipped = |slip| seen(&model::run(&problem, budget, slip), problem.n());
+    let followed = budget.min(right.count + 1);
+    let slipped = |slip| given.slipped(cleared + MORE, followed, slip);
     let changed = changed(&right, slipped);
-    (line.len() <= MOST_BYTES).then_some(Case { line, kind: right.kind, changed, lists: None })
+    let Problem { primitives, literals, .. } = &given.problem;
+    let is_fit = line.len() <= MOST_BYTES
+        && primitives.len() <= MOST_PRIMITIVES
+        && literals.len() <= MOST_LITERALS;
+    is_fit.then_some(Case { line, kind: right.kind, changed, lists: None })
 }
 
 /// The sheet of a seed, if it is fit to be kept.
@@ -133,26 +143,20 @@ fn read(text: &str) -> (Result<Problem, Refusal>, Vec<String>) {
     literals.truncate(3 * counts.literals);
     let name = |name: &[u8]| String::from_utf8_lossy(name).trim_end().to_string();
     let names = names.chunks(8).take(counts.declared).map(name).collect();
-    (Ok(Problem { ranges, primitives, lengths, literals }), names)
+    let leading = counts.declared as i64;
+    (Ok(Problem { ranges, primitives, lengths, literals, leading }), names)
 }
 
 /// What the desk makes of a sheet, with a budget of its own and a slip.
 fn answered(sheet: &Sheet, declared: usize, budget: i64, slip: Slip) -> Seen {
-    let refused = |(number, line): Refusal| Seen {
-        kind: Kind::Refused(number),
-        count: line as i64,
-        values: Vec::new(),
+    let problem = match translation::problem(sheet, slip) {
+        Err((number, line)) => return Seen::refused(number, line),
+        Ok(problem) => problem,
     };
-    match translation::problem(sheet, slip) {
-        Err(refusal) => refused(refusal),
-        Ok(problem) if room(&problem) > paper::DESK_WORKSPACE => refused((7, 0)),
-        Ok(problem) => seen(&model::run(&problem, budget, slip), declared),
+    match ground::refusal(&problem, paper::DESK_WORKSPACE, slip) {
+        Some(number) => Seen::refused(number, 0),
+        None => Seen::new(&model::run(&problem, budget, slip), declared),
     }
-}
-
-/// The workspace that a problem needs.
-fn room(problem: &Problem) -> usize {
-    2 * problem.n() * (plain::depth(problem) + 1)
 }
 
 /// Puts a literal of a clause behind it once more.
@@ -168,29 +172,74 @@ fn repeat_a_literal(random: &mut Random, problem: &mut Problem) {
 
 type Run = (Outcome, i64);
 
-/// What the `paper` crate answers; the model without a slip must say the same.
-fn solved(problem: &Problem, budget: i64) -> Run {
-    let n = problem.n();
-    let mut point = vec![NOISE; n];
-    let mut work = vec![0; room(problem)];
-    let solved = paper::solve(
-        &problem.ranges,
-        &problem.primitives,
-        &problem.lengths,
-        &problem.literals,
-        budget,
-        &mut point,
-        &mut work,
-    );
-    let outcome = match solved.answer {
-        Ok(Answer::None) => Outcome::None,
-        Ok(Answer::Found) => Outcome::Found(point),
-        Ok(Answer::Stopped) => Outcome::Stopped(point),
-        Err(number) => panic!("{problem:?} is refused: {number}"),
-    };
-    let run = (outcome, solved.sweeps);
-    assert_eq!(run, model::run(problem, budget, Slip::None), "{problem:?} {budget}");
-    run
+/// A problem and its budget.
+struct Given {
+    problem: Problem,
+    budget: i64,
+}
+
+impl Given {
+    /// What the `paper` crate answers, and how many numbers of the workspace are
+    /// cleared then. A refused problem is lent no more than the gate lends it.
+    fn solved(&self) -> (Seen, usize) {
+        let Given { problem, budget } = self;
+        let is_refused = ground::refusal(problem, usize::MAX, Slip::None).is_some();
+        let cleared = if is_refused { 0 } else { ground::need(problem, Slip::None) };
+        let mut point = vec![NOISE; problem.n()];
+        let mut work = vec![NOISE; cleared + MORE];
+        let solved = paper::solve(
+            &problem.ranges,
+            &problem.primitives,
+            &problem.lengths,
+            &problem.literals,
+            problem.leading,
+            *budget,
+            &mut point,
+            &mut work,
+        );
+        let seen = match solved.answer {
+            Ok(Answer::None) => Seen::new(&(Outcome::None, solved.sweeps), 0),
+            Ok(Answer::Found) => Seen::new(&(Outcome::Found(point), solved.sweeps), problem.n()),
+            Ok(Answer::Stopped) => {
+                Seen::new(&(Outcome::Stopped(point), solved.sweeps), problem.n())
+            }
+            Err(number) => Seen::refused(number, 0),
+        };
+        let without_slip = self.slipped(cleared + MORE, *budget, Slip::None);
+        assert_eq!(seen, without_slip, "{problem:?} {budget}");
+        assert!(work[..cleared].iter().all(|&number| number == 0), "{problem:?} {budget}");
+        assert!(work[cleared..].iter().all(|&number| number == NOISE), "{problem:?} {budget}");
+        (seen, cleared)
+    }
+
+    /// What the model with a slip answers with so much workspace.
+    fn slipped(&self, lent: usize, budget: i64, slip: Slip) -> Seen {
+        match ground::refusal(&self.problem, lent, slip) {
+            Some(number) => Seen::refused(number, 0),
+            None => Seen::new(&model::run(&self.problem, budget, slip), self.problem.n()),
+        }
+    }
+
+    /// The answer's number (50 none, 51 found, 52 stopped, else a refusal's),
+    /// sweeps, numbers of workspace cleared, leading number, budget, the numbers
+    /// of quantities, primitives, clauses and literals; then the ranges,
+    /// primitives, lengths and literals, and the values of found and stopped.
+    fn line(&self, seen: &Seen, cleared: usize) -> String {
+        let Problem { ranges, primitives, lengths, literals, leading } = &self.problem;
+        let number = match seen.kind {
+            Kind::None => 50,
+            Kind::Found => 51,
+            Kind::Stopped => 52,
+            Kind::Refused(number) => i64::from(number),
+        };
+        let mut numbers = vec![number, seen.count, cleared as i64, *leading, self.budget];
+        let counts = [ranges.len() / 2, primitives.len() / 4, lengths.len(), literals.len() / 3];
+        numbers.extend(counts.map(|count| count as i64));
+        for list in [ranges, primitives, lengths, literals, &seen.values] {
+            numbers.extend(list);
+        }
+        spaced(&numbers)
+    }
 }
 
 /// For each slip, whether it makes something else.
@@ -198,35 +247,20 @@ fn changed<T: PartialEq>(right: &T, slipped: impl Fn(Slip) -> T) -> Vec<bool> {
     ALL.iter().map(|&(slip, _)| slipped(slip) != *right).collect()
 }
 
-/// What is seen of a run that shows so many values.
-fn seen((outcome, sweeps): &Run, shown: usize) -> Seen {
-    let (kind, values) = match outcome {
-        Outcome::None => (Kind::None, &[][..]),
-        Outcome::Found(point) => (Kind::Found, &point[..]),
-        Outcome::Stopped(floor) => (Kind::Stopped, &floor[..]),
-    };
-    Seen { kind, count: *sweeps, values: values.iter().copied().take(shown).collect() }
-}
-
-/// The answer's number (8 none, 9 found, 10 stopped), sweeps, workspace needed,
-/// budget, the numbers of quantities, primitives, clauses and literals; then
-/// the ranges, primitives, lengths and literals, and the values but for none.
-fn problem_line(problem: &Problem, budget: i64, run: &Run) -> String {
-    let n = problem.n();
-    let (number, values) = match &run.0 {
-        Outcome::None => (8, &[][..]),
-        Outcome::Found(point) => (9, &point[..]),
-        Outcome::Stopped(floor) => (10, &floor[..]),
-    };
-    let counts =
-        [n, problem.primitives.len() / 4, problem.lengths.len(), problem.literals.len() / 3];
-    let mut numbers = vec![number, run.1, room(problem) as i64, budget];
-    numbers.extend(counts.map(|count| count as i64));
-    for list in [&problem.ranges, &problem.primitives, &problem.lengths, &problem.literals] {
-        numbers.extend(list);
+impl Seen {
+    /// What is seen of a run that shows so many values.
+    fn new((outcome, sweeps): &Run, shown: usize) -> Seen {
+        let (kind, values) = match outcome {
+            Outcome::None => (Kind::None, &[][..]),
+            Outcome::Found(point) => (Kind::Found, &point[..]),
+            Outcome::Stopped(floor) => (Kind::Stopped, &floor[..]),
+        };
+        Seen { kind, count: *sweeps, values: values.iter().copied().take(shown).collect() }
     }
-    numbers.extend(values);
-    spaced(&numbers)
+
+    fn refused(number: u8, line: usize) -> Seen {
+        Seen { kind: Kind::Refused(number), count: line as i64, values: Vec::new() }
+    }
 }
 
 /// The sheet, a bar, and what the desk prints, with a slash for each LF.
@@ -252,7 +286,7 @@ fn lists_line(text: &str, lists: &Result<Problem, Refusal>, declared: usize) -> 
     let numbers = match lists {
         Err((number, line)) => vec![i64::from(*number), *line as i64],
         Ok(problem) => {
-            let Problem { ranges, primitives, lengths, literals } = problem;
+            let Problem { ranges, primitives, lengths, literals, .. } = problem;
             let counts =
                 [problem.n(), declared, primitives.len() / 4, lengths.len(), literals.len() / 3];
             let mut numbers = vec![0];

@@ -8,6 +8,7 @@
 
 mod case;
 mod choice;
+mod ground;
 mod model;
 mod short;
 mod slip;
@@ -27,13 +28,13 @@ const LISTS: &str = concat!(env!("CARGO_MANIFEST_DIR"), "/../../crates/refusals/
 const MOST_BYTES: usize = 65_536;
 
 /// How many seeds are tried for each.
-const SEEDS: u64 = 30_000;
+const SEEDS: u64 = 40_000;
 
 fn main() -> io::Result<ExitCode> {
     let is_writing = std::env::args().nth(1).is_some_and(|argument| argument == "write");
     let problems = choice::keep(
         (0..SEEDS).filter_map(case::problem).collect(),
-        &[(Kind::None, 30), (Kind::Found, 35), (Kind::Stopped, 35)],
+        &[(Kind::None, 26), (Kind::Found, 32), (Kind::Stopped, 30), (Kind::Refused(8), 12)],
     );
     let sheets = choice::keep(
         (0..SEEDS).filter_map(case::sheet).collect(),

@@ -39,10 +39,16 @@ pub enum Slip {
     OldDefaultStays,
     NewDefaultAlways,
     LaterVersionsTaken,
+    DepthOverAll,
+    FactorDefines,
+    OnlyZDefines,
+    EqualDefines,
+    HigherDefines,
+    RoomFirst,
 }
 
 /// Every slip, with what it does.
-pub const ALL: [(Slip, &str); 35] = [
+pub const ALL: [(Slip, &str); 41] = [
     (Slip::SumSecondFirst, "a sum cuts y before x"),
     (Slip::ProductSecondFirst, "a product cuts y before x"),
     (Slip::EndByEnd, "the ends of a cut are applied one after the other"),
@@ -84,4 +90,10 @@ pub const ALL: [(Slip, &str); 35] = [
     (Slip::OldDefaultStays, "version 1's default range for version 2 too"),
     (Slip::NewDefaultAlways, "version 2's default range for version 1 too"),
     (Slip::LaterVersionsTaken, "a version from 3 on is taken as 2"),
+    (Slip::DepthOverAll, "D counts all quantities"),
+    (Slip::FactorDefines, "a product's factor defines a later quantity"),
+    (Slip::OnlyZDefines, "x or y of a sum defines no later quantity"),
+    (Slip::EqualDefines, "a primitive that names the later quantity twice defines it"),
+    (Slip::HigherDefines, "a primitive over higher-numbered quantities defines a later one"),
+    (Slip::RoomFirst, "8 is looked at after 7"),
 ];

@@ -27,6 +27,7 @@ pub fn problem(sheet: &Sheet, slip: Slip) -> Result<Problem, Refusal> {
             return Err((29, number));
         }
     }
+    draft.problem.leading = draft.names.len() as i64;
     Ok(draft.problem)
 }
 

@@ -1,5 +1,5 @@
 //! The library's calls over the caller's buffers: what they read, write and
-//! leave is exactly what document 01 says.
+//! leave is exactly what documents 01 and 02 say.
 
 use std::ops::Range;
 
@@ -47,7 +47,8 @@ pub struct Fault {
     pub line: usize,
 }
 
-/// Checks a problem and searches it with at most `budget` sweeps.
+/// Checks a problem, of whose quantities the first `leading` ones lead, and
+/// searches it with at most `budget` sweeps.
 ///
 /// Found writes the point, stopped the floor; none leaves `point` alone. A
 /// refusal leaves both buffers alone; every other answer clears the needed
@@ -57,11 +58,12 @@ pub fn solve(
     primitives: &[i64],
     lengths: &[i64],
     literals: &[i64],
+    leading: i64,
     budget: i64,
     point: &mut [i64],
     work: &mut [i64],
 ) -> Solved {
-    let numbers = ffi::solve(ranges, primitives, lengths, literals, budget, point, work);
+    let numbers = ffi::solve(ranges, primitives, lengths, literals, leading, budget, point, work);
     let answer = match numbers.answer {
         0 => Ok(Answer::None),
         1 => Ok(Answer::Found),

@@ -1,6 +1,6 @@
-//! The grounds on which a call refuses, by document 01's numbers.
+//! The grounds on which a call refuses, by the numbers of documents 01 and 02.
 
-/// A ground for a refusal: 1 to 7 of a solve, 19 to 30 of a sheet.
+/// A ground for a refusal: 1 to 8 of a solve, 19 to 30 of a sheet.
 #[derive(Clone, Copy, Debug, PartialEq, Eq, PartialOrd, Ord, Hash)]
 pub enum Ground {
     Quantities,
@@ -10,6 +10,7 @@ pub enum Ground {
     Literals,
     Budget,
     Room,
+    Leading,
     ShortLists,
     Text,
     FirstLine,
@@ -22,7 +23,7 @@ pub enum Ground {
     Beyond,
     Many,
     Undeclared,
-    /// No ground of document 01. The library is proved never to give one.
+    /// No ground of the documents. The library is proved never to give one.
     Unknown(usize),
 }
 
@@ -34,9 +35,9 @@ struct Row {
     advice: &'static str,
 }
 
-/// Every ground there is, in order. The words of 7 and from 19 on are those of
-/// docs/SHEETS.md, those before 7 document 01's.
-const ROWS: [Row; 19] = [
+/// Every ground there is, by number (a solve looks at 8 before 7). The words from
+/// 7 on are those of docs/SHEETS.md, those before 7 document 01's.
+const ROWS: [Row; 20] = [
     Row {
         ground: Ground::Quantities,
         number: 1,
@@ -81,9 +82,16 @@ const ROWS: [Row; 19] = [
         number: 7,
         meaning: "the search would need more room than the desk has: 2n(D+1) numbers, at most \
                   8,192, where n counts the quantities with all helpers (numbers, operations \
-                  and comparisons) and D the halvings of all their ranges",
-        advice: "give tight ranges, write a size once as a declared quantity, declare a number \
+                  and comparisons) and D the halvings of the declared ranges",
+        advice: "give tighter declared ranges, write fewer rules or helpers, declare a number \
                  that is compared often (`range limit 65535 65535`)",
+    },
+    Row {
+        ground: Ground::Leading,
+        number: 8,
+        meaning: "the leading number is outside 1 to n, or a later quantity is neither one value \
+                  nor the result of a primitive over lower-numbered ones",
+        advice: "give n as the leading number, which is never refused",
     },
     Row {
         ground: Ground::ShortLists,
@@ -159,18 +167,18 @@ const ROWS: [Row; 19] = [
 ];
 
 impl Ground {
-    /// Every ground of document 01, in order.
+    /// Every ground of the documents, by number.
     pub fn all() -> impl Iterator<Item = Ground> {
         ROWS.iter().map(|row| row.ground)
     }
 
-    /// The ground that has a number in document 01.
+    /// The ground that has a number in the documents.
     pub fn from_number(number: usize) -> Ground {
         let row = ROWS.iter().find(|row| row.number == number);
         row.map_or(Ground::Unknown(number), |row| row.ground)
     }
 
-    /// Document 01's number of the ground.
+    /// The documents' number of the ground.
     pub fn number(self) -> usize {
         match self {
             Ground::Unknown(number) => number,
@@ -180,7 +188,7 @@ impl Ground {
 
     /// What the ground means.
     pub fn meaning(self) -> &'static str {
-        self.row().map_or("no ground of document 01", |row| row.meaning)
+        self.row().map_or("no ground of the documents", |row| row.meaning)
     }
 
     /// What to do about it, where there is something to say.
@@ -204,8 +212,8 @@ mod tests {
         for ground in Ground::all() {
             assert_eq!(Ground::from_number(ground.number()), ground);
         }
-        assert_eq!(Ground::from_number(8), Ground::Unknown(8));
-        assert_eq!(Ground::Unknown(8).number(), 8);
+        assert_eq!(Ground::from_number(9), Ground::Unknown(9));
+        assert_eq!(Ground::Unknown(9).number(), 9);
     }
 
     #[test]

@@ -20,7 +20,7 @@
 //! * [`calls`] has the library's calls themselves, over the caller's buffers.
 //!
 //! Nothing here panics, whatever it is handed. What each call does is said by
-//! document 01, and proved.
+//! documents 01 and 02, and proved.
 
 #![deny(unsafe_code)]
 

@@ -5,14 +5,18 @@ use crate::refusal::Refusal;
 
 const MOST_QUANTITIES: usize = 128;
 
-/// The four lists of a problem, as document 01 lays them out. Any numbers may
-/// stand in them; a solve says what is wrong with them.
+/// The four lists of a problem, as document 01 lays them out, and its leading
+/// number. Any numbers may stand in them; a solve says what is wrong with them.
 #[derive(Clone, Debug, Default, PartialEq, Eq, Hash)]
 pub struct Problem {
     pub ranges: Vec<i64>,
     pub primitives: Vec<i64>,
     pub lengths: Vec<i64>,
     pub literals: Vec<i64>,
+    /// How many quantities lead; all of them for `None`. Each later one must be
+    /// one value, or the result of a primitive over lower-numbered ones, and
+    /// then its range takes no room.
+    pub leading: Option<i64>,
 }
 
 /// What a search came to. Points and floors have a value for each quantity.
@@ -39,13 +43,20 @@ impl Problem {
         self.ranges.len() / 2
     }
 
-    /// The workspace that a search needs, 2n(D+1) numbers. It is 0 for more
-    /// quantities than a problem may have.
+    /// How many quantities lead.
+    pub fn leading(&self) -> i64 {
+        self.leading.unwrap_or(self.quantities() as i64)
+    }
+
+    /// The workspace that a search needs, 2n(D+1) numbers, D being the halvings
+    /// of the leading ranges. It is 0 for more quantities than a problem may
+    /// have.
     pub fn room(&self) -> usize {
         if self.quantities() > MOST_QUANTITIES {
             return 0;
         }
-        let depth: usize = self.ranges.chunks_exact(2).map(halvings).sum();
+        let leading = usize::try_from(self.leading()).unwrap_or(0);
+        let depth: usize = self.ranges.chunks_exact(2).take(leading).map(halvings).sum();
         2 * self.quantities() * (depth + 1)
     }
 
@@ -64,6 +75,7 @@ impl Problem {
             &self.primitives,
             &self.lengths,
             &self.literals,
+            self.leading(),
             budget,
             &mut point,
             &mut work,

@@ -8,7 +8,7 @@ use crate::refusal::Refusal;
 const NAME_BYTES: usize = 8;
 
 /// An accepted sheet: its problem, and the names of the declared quantities,
-/// which are the problem's first ones.
+/// which are the problem's first ones and lead it.
 #[derive(Clone, Debug, PartialEq, Eq, Hash)]
 pub struct Sheet {
     problem: Problem,
@@ -23,6 +23,7 @@ impl Sheet {
             primitives: vec![0; calls::FULL_PRIMITIVES],
             lengths: vec![0; calls::FULL_LENGTHS],
             literals: vec![0; calls::FULL_LITERALS],
+            leading: None,
         };
         let mut names = vec![0; calls::FULL_NAMES];
         let counts = calls::translate(
@@ -59,12 +60,13 @@ impl Sheet {
     }
 }
 
-/// Leaves of each list what the sheet filled.
+/// Leaves of each list what the sheet filled. The declared quantities lead.
 fn keep_fronts(problem: &mut Problem, counts: Counts) {
     problem.ranges.truncate(2 * counts.quantities);
     problem.primitives.truncate(4 * counts.primitives);
     problem.lengths.truncate(counts.clauses);
     problem.literals.truncate(3 * counts.literals);
+    problem.leading = Some(counts.declared as i64);
 }
 
 fn unpadded(name: &[u8]) -> String {

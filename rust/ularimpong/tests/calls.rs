@@ -19,7 +19,11 @@ fn the_first_sheet() {
     assert_eq!(answer(FIRST), b"FOUND 6\nw 5\nh 7\n");
     let sheet = Sheet::read(FIRST).expect("an accepted sheet");
     assert_eq!(sheet.names(), ["w", "h"]);
-    assert_eq!((sheet.problem().quantities(), sheet.problem().room()), (6, 336));
+    let problem = sheet.problem();
+    assert_eq!((problem.quantities(), problem.leading(), problem.room()), (6, 2, 108));
+    let all_lead = Problem { leading: None, ..problem.clone() };
+    assert_eq!((all_lead.leading(), all_lead.room()), (6, 336));
+    assert_eq!(all_lead.solve(100_000), sheet.solve(100_000));
     let report = sheet.solve(100_000).expect("an answer");
     assert_eq!(report.sweeps, 6);
     let Outcome::Found(point) = report.outcome else { panic!("found") };
@@ -59,6 +63,19 @@ fn refusals_of_problems() {
     assert_eq!(ground(&sound, MOST_BUDGET + 1), Err(Ground::Budget));
     let short = sound.solve_within(9, 3).map_err(|error| error.ground);
     assert_eq!(short, Err(Ground::Room));
+    for leading in [i64::MIN, -1, 0, 2, i64::MAX] {
+        let led = Problem { leading: Some(leading), ..sound.clone() };
+        assert_eq!(ground(&led, 9), Err(Ground::Leading));
+        let without_room = led.solve_within(9, 0).map_err(|error| error.ground);
+        assert_eq!(without_room, Err(Ground::Leading));
+        assert_eq!(ground(&led, -1), Err(Ground::Budget));
+    }
+    let pair = Problem { ranges: vec![0, 1, 0, 9], leading: Some(1), ..Problem::default() };
+    assert_eq!(ground(&pair, 9), Err(Ground::Leading));
+    let doubled = Problem { primitives: vec![1, 1, 0, 0], ..pair.clone() };
+    assert_eq!((doubled.room(), ground(&doubled, 9).is_ok()), (8, true));
+    let factor = Problem { primitives: vec![2, 0, 1, 0], ..pair };
+    assert_eq!(ground(&factor, 9), Err(Ground::Leading));
     let huge = Problem { ranges: vec![i64::MIN; 100_000], ..Problem::default() };
     assert_eq!(ground(&huge, 9), Err(Ground::Quantities));
     let far = Problem { ranges: vec![i64::MIN, i64::MAX], ..Problem::default() };

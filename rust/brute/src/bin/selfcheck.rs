@@ -29,6 +29,7 @@ fn main() -> ExitCode {
         ("extreme problems against the plain definitions", 100_000, extreme_problem),
         ("damaged problems", 100_000, damaged_problem),
         ("arbitrary lists", 300_000, arbitrary_lists),
+        ("leading numbers near their limits", 100_000, near_leading),
         ("small sheets against every assignment", 40_000, small_sheet),
         ("faulty sheets", 100_000, faulty_sheet),
         ("damaged sheets", 100_000, damaged_sheet),
@@ -92,7 +93,7 @@ fn ensure(alike: bool, what: impl FnOnce() -> String) -> Result<(), String> {
 fn agrees_with_plain(problem: &Problem, budget: i64) -> Result<plain::Run, String> {
     let wanted = plain::run(problem, budget);
     let depth = plain::depth(problem);
-    let need = 2 * problem.n() * (depth + 1);
+    let need = plain::need(problem);
     let mut point = vec![NOISE; problem.n()];
     let mut work = vec![NOISE; need + SPARE];
     let solved = paper::solve(
@@ -100,6 +101,7 @@ fn agrees_with_plain(problem: &Problem, budget: i64) -> Result<plain::Run, Strin
         &problem.primitives,
         &problem.lengths,
         &problem.literals,
+        problem.leading,
         budget,
         &mut point,
         &mut work,
@@ -116,7 +118,10 @@ fn agrees_with_plain(problem: &Problem, budget: i64) -> Result<plain::Run, Strin
     let kept = work[need..].iter().all(|&number| number == NOISE);
     ensure(cleared && kept, || format!("{problem:?} {budget}: workspace {work:?}"))?;
     ensure(wanted.most_waiting <= depth, || format!("{problem:?}: more than D wait"))?;
-    ensure(paper::workspace_need(&problem.ranges) == (depth, need), || {
+    ensure(wanted.split as i64 <= problem.leading, || {
+        format!("{problem:?}: a later one is split")
+    })?;
+    ensure(paper::workspace_need(&problem.ranges, problem.leading) == (depth, need), || {
         format!("{problem:?}: need")
     })?;
     Ok(wanted)
@@ -158,7 +163,7 @@ fn extreme_problem(random: &mut Random) -> Result<String, String> {
 fn damaged_problem(random: &mut Random) -> Result<String, String> {
     let problem =
         if random.once_in(2) { problems::small(random) } else { problems::extreme(random) };
-    let need = paper::workspace_need(&problem.ranges).1;
+    let need = plain::need(&problem);
     let case = problems::damaged(random, problem, need);
     let mut point = vec![NOISE; case.point];
     let mut work = vec![NOISE; case.work];
@@ -167,6 +172,7 @@ fn damaged_problem(random: &mut Random) -> Result<String, String> {
         &case.problem.primitives,
         &case.problem.lengths,
         &case.problem.literals,
+        case.problem.leading,
         case.budget,
         &mut point,
         &mut work,
@@ -180,11 +186,21 @@ fn damaged_problem(random: &mut Random) -> Result<String, String> {
 
 fn arbitrary_lists(random: &mut Random) -> Result<String, String> {
     let problem = problems::arbitrary(random);
+    refused_or_run(random, &problem)
+}
+
+fn near_leading(random: &mut Random) -> Result<String, String> {
+    let problem = problems::near_leading(random);
+    refused_or_run(random, &problem)
+}
+
+/// Compares a problem that may be refused, with buffers that are mostly right.
+fn refused_or_run(random: &mut Random, problem: &Problem) -> Result<String, String> {
     let budget = if random.once_in(20) { random.bits() as i64 } else { random.between(0, 40) };
-    let need = paper::workspace_need(&problem.ranges).1;
+    let need = paper::workspace_need(&problem.ranges, problem.leading).1;
     let size = problem.n() + random.below(20) / 19;
     let room = (need + SPARE).saturating_sub(random.below(10) / 9 * (SPARE + 1));
-    if let Some(number) = plain::refusal(&problem, budget, size, room) {
+    if let Some(number) = plain::refusal(problem, budget, size, room) {
         let mut point = vec![NOISE; size];
         let mut work = vec![NOISE; room];
         let solved = paper::solve(
@@ -192,6 +208,7 @@ fn arbitrary_lists(random: &mut Random) -> Result<String, String> {
             &problem.primitives,
             &problem.lengths,
             &problem.literals,
+            problem.leading,
             budget,
             &mut point,
             &mut work,
@@ -202,7 +219,7 @@ fn arbitrary_lists(random: &mut Random) -> Result<String, String> {
         ensure(untouched, || format!("{problem:?}: a refusal wrote"))?;
         return Ok(number.to_string());
     }
-    let run = agrees_with_plain(&problem, budget.min(1_000))?;
+    let run = agrees_with_plain(problem, budget.min(1_000))?;
     Ok(kind_of(&run.outcome).to_string())
 }
 
@@ -285,6 +302,7 @@ fn as_problem(lists: &Lists) -> Problem {
         primitives: lists.primitives.clone(),
         lengths: lists.lengths.clone(),
         literals: lists.literals.clone(),
+        leading: lists.names.len() as i64,
     }
 }
 
@@ -316,7 +334,7 @@ fn small_sheet(random: &mut Random) -> Result<String, String> {
 /// What the desk must print for an accepted sheet, by the plain definitions.
 fn desk_output(lists: &Lists) -> String {
     let problem = as_problem(lists);
-    if 2 * problem.n() * (plain::depth(&problem) + 1) > paper::DESK_WORKSPACE {
+    if plain::need(&problem) > paper::DESK_WORKSPACE {
         return "REFUSED 7 0\n".to_string();
     }
     let run = plain::run(&problem, paper::DESK_BUDGET);
@@ -375,6 +393,7 @@ fn damaged_sheet(random: &mut Random) -> Result<String, String> {
                 primitives: lent.primitives[..4 * counts.primitives].to_vec(),
                 lengths: lent.lengths[..counts.clauses].to_vec(),
                 literals: lent.literals[..3 * counts.literals].to_vec(),
+                leading: counts.declared as i64,
             };
             agrees_with_plain(&problem, random.between(0, 30)).map_err(|error| shown() + &error)?;
             Ok("accepted".to_string())

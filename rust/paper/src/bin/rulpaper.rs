@@ -1,7 +1,7 @@
 //! The desk program: a sheet from standard input, its answer to standard
 //! output. With `--lists`, the translated lists instead: ranges, primitives,
-//! lengths, literals, name bytes, the five counts, D and the workspace need,
-//! one list to a line.
+//! lengths, literals, name bytes, the five counts, D and the workspace need
+//! (with the declared quantities leading), one list to a line.
 
 use std::io::{self, Read, Write};
 
@@ -36,7 +36,7 @@ fn lists(sheet: &[u8]) -> Vec<u8> {
         Translated::Accepted(counts) => counts,
     };
     let ranges = &ranges[..2 * counts.quantities];
-    let (depth, need) = workspace_need(ranges);
+    let (depth, need) = workspace_need(ranges, counts.declared as i64);
     let five =
         [counts.quantities, counts.declared, counts.primitives, counts.clauses, counts.literals];
     [
