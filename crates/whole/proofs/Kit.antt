@@ -214,7 +214,7 @@ pub rd : {z : ℤ} → SFits w64 z → at z ≡ z
 rd f = to_z-of_z f
 
 pub got : (z : ℤ) → mag z < 2 ^ 63 → at z ≡ z
-got z h = to_z-of_z (record { sfits = h })
+got z h = to_z-of_z {w = w64} {z = z} (record { sfits = h })
 
 pub lit : (z : ℤ) → z ≡ z
 lit z = refl

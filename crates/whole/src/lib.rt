@@ -1,5 +1,7 @@
 // Whole numbers within plus or minus M: the arithmetic that cuts and translations stand on.
 // Every function of this crate is inner: only our own crates call it, and its contract may ask that numbers are near.
+#![tactic(auto)]
+
 pub mod power;
 pub mod product;
 pub mod quotient;
