@@ -1,4 +1,5 @@
 // The calls for C: each says in numbers what the call of the same name answers, and asks nothing of its caller.
+#![tactic(auto)]
 
 ghost use Rattle.std.specs.Prelude.{◌≡◌};
 ghost use Rattle.sheet.specs.Lines.{span_of};
@@ -10,7 +11,7 @@ use translate::Translated;
 
 // What a solve answers: 0 none, 1 found, 2 stopped, 3 refused; the refusal's number, 0 where there is none; and the number of sweeps used.
 #[repr(C)]
-#[derive(Drop)]
+#[derive(Clone, Copy)]
 pub struct SolveNumbers {
     pub answer: usize,
     pub refusal: usize,
@@ -19,7 +20,7 @@ pub struct SolveNumbers {
 
 // What a translation answers: the refusal's number and line, and how many of each the sheet makes. Accepted: refusal and line are 0. Refused: the counts are.
 #[repr(C)]
-#[derive(Drop)]
+#[derive(Clone, Copy)]
 pub struct TranslateNumbers {
     pub refusal: usize,
     pub line: usize,
@@ -32,7 +33,7 @@ pub struct TranslateNumbers {
 
 // A stretch of a text: from start up to end.
 #[repr(C)]
-#[derive(Drop)]
+#[derive(Clone, Copy)]
 pub struct LineSpan {
     pub start: usize,
     pub end: usize,

@@ -1,4 +1,6 @@
 // The desk program: a sheet from standard input, its answer to standard output.
+#![tactic(auto)]
+
 ghost use Rattle.desk.specs.Input.{Within};
 
 use libc::{STDERR_FILENO, STDIN_FILENO, STDOUT_FILENO};

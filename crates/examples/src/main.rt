@@ -1,5 +1,7 @@
 // The examples and comparisons of sheets that the gate runs. Each group prints its name, its number of cases and its number of
 // agreements; a disagreement prints its case.
+#![tactic(auto)]
+
 mod answers;
 mod drawing;
 mod room;

@@ -1,5 +1,7 @@
 // One line of a sheet, read into lists of full size behind what the lines before left there: the readers of expressions and rules, and what they write.
 // Every function of this crate is inner: only `translate` calls it.
+#![tactic(auto)]
+
 mod expression;
 pub mod front;
 pub mod line;

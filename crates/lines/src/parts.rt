@@ -3,7 +3,7 @@ use meaning::Refusal;
 use whole::Range;
 
 // How many quantities and primitives there are, whether a name was undeclared, and whether a range left plus or minus M.
-#[derive(Drop)]
+#[derive(Clone, Copy)]
 pub struct Making {
     pub used: usize,
     pub count: usize,
@@ -12,21 +12,21 @@ pub struct Making {
 }
 
 // The quantity that holds the value of what was read, and its range.
-#[derive(Drop)]
+#[derive(Clone, Copy)]
 pub struct Held {
     pub place: usize,
     pub span: Range,
 }
 
 // A helper that was made, and the counts with it.
-#[derive(Drop)]
+#[derive(Clone, Copy)]
 pub struct Emitted {
     pub held: Held,
     pub making: Making,
 }
 
 // What reading a part of an expression made, and where the next token starts; or that there is no such part.
-#[derive(Drop)]
+#[derive(Clone, Copy)]
 pub enum Made {
     At {
         next: usize,
@@ -37,7 +37,7 @@ pub enum Made {
 }
 
 // The counts, how many literals a clause has so far, and how many equality demands there were, up to two.
-#[derive(Drop)]
+#[derive(Clone, Copy)]
 pub struct Tally {
     pub making: Making,
     pub count: usize,
@@ -45,14 +45,14 @@ pub struct Tally {
 }
 
 // What listing comparisons made, and where the next token starts; or that they are not of the form.
-#[derive(Drop)]
+#[derive(Clone, Copy)]
 pub enum Listed {
     At { next: usize, tally: Tally },
     Not,
 }
 
 // What reading the comparisons of a rule made: the counts, how many literals, and how many equality demands, up to two; or that they are not of the form.
-#[derive(Drop)]
+#[derive(Clone, Copy)]
 pub enum Ruled {
     Done {
         making: Making,
@@ -63,14 +63,14 @@ pub enum Ruled {
 }
 
 // What a line comes to: the counts so far, or the ground it is refused on.
-#[derive(Drop)]
+#[derive(Clone, Copy)]
 pub enum Lined {
     Next(Progress),
     Refused(Refusal),
 }
 
 // How far the sheet has been read: the counts so far, and whether a rule was met.
-#[derive(Drop)]
+#[derive(Clone, Copy)]
 pub struct Progress {
     pub declared: usize,
     pub quantities: usize,

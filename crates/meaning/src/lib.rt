@@ -1,7 +1,8 @@
 // What a translation is and what it means: definitions and their laws, without code. Here stand only the grounds that they speak of.
+#![tactic(auto)]
 
 // The grounds on which a sheet is refused, 19 to 30.
-#[derive(Drop)]
+#[derive(Clone, Copy)]
 pub enum Refusal {
     Lists,
     Text,

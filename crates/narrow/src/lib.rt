@@ -1,5 +1,7 @@
 // The cuts of sum, product, square and clause, and one sweep over a box.
 // Every function of this crate is inner: only our own crates call it, on boxes and lists that were judged.
+#![tactic(auto)]
+
 mod clause;
 mod product;
 mod square;
@@ -18,7 +20,7 @@ use problem::Primitive;
 use whole::Range;
 
 // What has become of a box: a range is empty, a range changed, nothing changed.
-#[derive(Drop)]
+#[derive(Clone, Copy)]
 pub enum Status {
     Empty,
     Changed,

@@ -1,5 +1,7 @@
 // What a problem is: lists of numbers, read as primitives and literals, and judged by grounds 1 to 5.
 // Every function of this crate is inner: only our own crates call it.
+#![tactic(auto)]
+
 pub mod leading;
 
 ghost use Rattle.std.specs.Prelude.{◌||◌, ◌≡◌, ◌≤◌, length, pos, ◌*ℤ◌};
@@ -7,7 +9,7 @@ ghost use Rattle.problem.specs.Grounds.{differ, beyond, missing, bad_quantities,
 ghost use Rattle.problem.specs.inner.Placed.{Readable, primitive_at, ReadableLiteral, literal_at};
 
 // z = x + y, z = x * y, z = x squared.
-#[derive(Drop)]
+#[derive(Clone, Copy)]
 pub enum Primitive {
     Sum { z: usize, x: usize, y: usize },
     Product { z: usize, x: usize, y: usize },
@@ -15,14 +17,14 @@ pub enum Primitive {
 }
 
 // A quantity is at most a bound, or at least.
-#[derive(Drop)]
+#[derive(Clone, Copy)]
 pub enum Literal {
     AtMost { quantity: usize, bound: i64 },
     AtLeast { quantity: usize, bound: i64 },
 }
 
 // The grounds on which a solve is refused, 1 to 8.
-#[derive(Drop)]
+#[derive(Clone, Copy)]
 pub enum Refusal {
     Quantities,
     Lists,
@@ -35,7 +37,7 @@ pub enum Refusal {
 }
 
 // What the lists are judged.
-#[derive(Drop)]
+#[derive(Clone, Copy)]
 pub enum Judged {
     Sound,
     Refused(Refusal),

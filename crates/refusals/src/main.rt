@@ -1,5 +1,7 @@
 // What translate answers: the refusals of sheets on both sides of their limits, and stored lists; and the lines of a text. Each group
 // prints its name, its number of cases and its number of agreements; a disagreement prints its case.
+#![tactic(auto)]
+
 mod grounds;
 mod lines;
 mod pins;

@@ -1,4 +1,6 @@
 // The search, and the public call `solve`.
+#![tactic(auto)]
+
 mod boxes;
 mod room;
 
@@ -10,14 +12,14 @@ use narrow::Status;
 use problem::{Judged, Refusal};
 
 // The quantity to split, if there is one.
-#[derive(Drop)]
+#[derive(Clone, Copy)]
 pub enum Open {
     At(usize),
     Closed,
 }
 
 // What a solve answers.
-#[derive(Drop)]
+#[derive(Clone, Copy)]
 pub enum Answer {
     None,
     Found,
@@ -26,7 +28,7 @@ pub enum Answer {
 }
 
 // The answer, and the number of sweeps used.
-#[derive(Drop)]
+#[derive(Clone, Copy)]
 pub struct Solved {
     pub answer: Answer,
     pub sweeps: usize,

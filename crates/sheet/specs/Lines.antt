@@ -39,7 +39,7 @@ span_of text k =
 
 -- a part of a lent text starts at this place of it
 abbrev pub StartsAt : Bor (List ℕ) → ℕ → Bor (List ℕ) → Type 0
-StartsAt text place part = (part.ptr.0 ≡ text.ptr.0) × (part.ptr.1 ≡ text.ptr.1 + place)
+StartsAt text place part = (part.ref_ptr.0 ≡ text.ref_ptr.0) × (part.ref_ptr.1 ≡ text.ref_ptr.1 + place)
 
 -- a part of a lent text is line k of it: the line's bytes, at the place where they stand
 abbrev pub IsLineOf : Bor (List ℕ) → ℕ → Bor (List ℕ) → Type 0

@@ -1,4 +1,6 @@
 // The text of sheets: lines, pieces, tokens, open brackets, and what a range line declares.
+#![tactic(auto)]
+
 pub mod depth;
 pub mod line;
 pub mod piece;
@@ -9,14 +11,14 @@ ghost use Rattle.std.specs.Prelude.{◌≡◌};
 ghost use Rattle.sheet.specs.Lines.{span_of, IsLineOf};
 
 // A stretch of a text: from start up to end.
-#[derive(Drop)]
+#[derive(Clone, Copy)]
 pub struct Stretch {
     pub start: usize,
     pub end: usize,
 }
 
 // The fixed marks: ( ) + - * ^2 <= < >= > = != range must if then and or
-#[derive(Drop)]
+#[derive(Clone, Copy)]
 pub enum Mark {
     Open,
     Close,
@@ -39,14 +41,14 @@ pub enum Mark {
 }
 
 // A number's value, or that it is none.
-#[derive(Drop)]
+#[derive(Clone, Copy)]
 pub enum Value {
     Is(u64),
     Not,
 }
 
 // A number with its value, a number below 0 with its size, a name with its letters as one number, a fixed mark; or no token.
-#[derive(Drop)]
+#[derive(Clone, Copy)]
 pub enum Token {
     Number(u64),
     Negative(u64),
@@ -56,14 +58,14 @@ pub enum Token {
 }
 
 // The token at a place, and where the next one starts.
-#[derive(Drop)]
+#[derive(Clone, Copy)]
 pub struct Step {
     pub token: Token,
     pub next: usize,
 }
 
 // How a comparison compares: <= < >= > = !=
-#[derive(Drop)]
+#[derive(Clone, Copy)]
 pub enum Sign {
     AtMost,
     Below,
@@ -74,7 +76,7 @@ pub enum Sign {
 }
 
 // What a range line declares: a name without a range, or with one; or that it is none.
-#[derive(Drop)]
+#[derive(Clone, Copy)]
 pub enum Declaration {
     Plain { name: u64 },
     Ranged { name: u64, low: i64, high: i64 },

@@ -1,4 +1,6 @@
 // Sheets to problems: the grounds in order, line by line, and the public call `translate`.
+#![tactic(auto)]
+
 mod name;
 mod text;
 mod walk;
@@ -11,7 +13,7 @@ use sheet::Value;
 use text::{bad_text, first_line, other_version};
 
 // How many of each an accepted sheet makes.
-#[derive(Drop)]
+#[derive(Clone, Copy)]
 pub struct Counts {
     pub quantities: usize,
     pub declared: usize,
@@ -21,7 +23,7 @@ pub struct Counts {
 }
 
 // What a translation answers: the counts, or the refusal and its line.
-#[derive(Drop)]
+#[derive(Clone, Copy)]
 pub enum Translated {
     Accepted(Counts),
     Refused { refusal: Refusal, line: usize },

@@ -15,7 +15,7 @@ use meaning::Refusal;
 use sheet::line::line_end;
 
 // What the lines of a sheet come to: the counts, or the refusal and its line.
-#[derive(Drop)]
+#[derive(Clone, Copy)]
 pub enum Walked {
     Read(Progress),
     Refused { refusal: Refusal, line: usize },

@@ -1,5 +1,7 @@
 // The comparisons of solve that the gate runs. Each group prints its name, its number of cases and its number of agreements; a
 // disagreement prints its case.
+#![tactic(auto)]
+
 mod pins;
 mod refusals;
 mod small;

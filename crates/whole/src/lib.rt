@@ -13,7 +13,7 @@ ghost use Rattle.whole.specs.Numbers.{Near, min_z, max_z, middle_of};
 ghost use Rattle.whole.specs.inner.Held.{Is};
 
 // The values from low to high.
-#[derive(Drop)]
+#[derive(Clone, Copy)]
 pub struct Range {
     pub low: i64,
     pub high: i64,

@@ -1,0 +1,17 @@
+-- The value of the whole is what the bytes from i on make of v, until a byte that is no digit, a value above M, or the end decides.
+use Prim.Native.Nat.{ℕ, ◌+◌, ◌-◌, ◌*◌, ◌≤◌}
+use mathlib.Core.Path.{◌≡◌, sym, ◌∙◌, ap}
+use native.Mathlib.Nat.{pos_of_ne-zero}
+use native.Mathlib.Omega.{arith}
+use lib.ListN.{length, drop, get_or}
+use borrow.Author.Rules.{rules}
+use borrow.Author.Tests.{not-true, not-false}
+use Rattle.sheet.specs.Tokens.{limited, suffix_of, digits_of}
+use Rattle.sheet.proofs.Digits.{digit_low, digit_high, limited_fits, digits_more, digits_unit, digits_none, suffix_long, suffix_last, suffix_none, digits_big}
+use Rattle.sheet.proofs.piece.digits.Given as goal
+
+abbrev pub invariant-loop-i : goal.invariant-loop-i
+invariant-loop-i l = (l.i ≤ length l.w) × (l.v ≤ 1_000_000_000_000) × (digits_of l.first (drop l.from l.w) ≡ digits_of l.v (drop l.i l.w))
+
+abbrev pub decreases-loop-i : goal.decreases-loop-i
+decreases-loop-i l = length l.w - l.i

@@ -1,0 +1,15 @@
+-- Whether all bytes are letters is whether those from i on are, until one is not.
+use Prim.Native.Nat.{◌≤◌, ◌-◌}
+use mathlib.Core.Path.{◌≡◌, sym, ◌∙◌}
+use native.Mathlib.Omega.{arith}
+use lib.ListN.{length, drop}
+use borrow.Author.Rules.{rules}
+use Rattle.sheet.specs.Tokens.{all_lower}
+use Rattle.sheet.proofs.Words.{lower_more, lower_under, lower_over, lower_none}
+use Rattle.sheet.proofs.piece.lower.Given as goal
+
+abbrev pub invariant-loop-i : goal.invariant-loop-i
+invariant-loop-i l = (l.i ≤ length l.w) × (all_lower l.w ≡ all_lower (drop l.i l.w))
+
+abbrev pub decreases-loop-i : goal.decreases-loop-i
+decreases-loop-i l = length l.w - l.i
