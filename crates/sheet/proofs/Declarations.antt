@@ -24,10 +24,10 @@ use Rattle.sheet.specs.declared.Token.{Token}
 use Rattle.sheet.specs.declared.Token.TheVariants.{Number, Negative, Name, Fixed, Bad}
 
 -- a token that is no name
-pub not_name : (t : Token) → OneOf (0 ∷ 1 ∷ 3 ∷ 4 ∷ []) (tag_of the_type t) → eqb (token_no t) 2 ≡ false
+pub not_name : (t : Token) → ((n : ℕ) → t ≡ Name n → ⊥) → eqb (token_no t) 2 ≡ false
 not_name (Number n) h = refl
 not_name (Negative n) h = refl
-not_name (Name n) h = absurd (miss (0 ∷ 1 ∷ 3 ∷ 4 ∷ []) 2 tt h)
+not_name (Name n) h = absurd (h n refl)
 not_name (Fixed m) h = ne_eqb (token_no (Fixed m)) 2 (λ e. let a = mark_above m in omega arith)
 not_name Bad h = refl
 

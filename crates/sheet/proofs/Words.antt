@@ -51,12 +51,12 @@ pub room_top : (i : ℕ) → i < 8 → 256 ^ (i + 1) ≤ 2 ^ 64
 room_top i h = pow-le-pow_right {n = 256} (lit< tt) {i = i + 1} {j = 8} (omega arith)
 
 -- ---- a mark, or else a name
-pub not_bad : (t u : Token) → OneOf (0 ∷ 1 ∷ 2 ∷ 3 ∷ []) (tag_of the_type t) → or_else t u ≡ t
+pub not_bad : (t u : Token) → (t ≡ Bad → ⊥) → or_else t u ≡ t
 not_bad (Number n) u h = refl
 not_bad (Negative n) u h = refl
 not_bad (Name n) u h = refl
 not_bad (Fixed m) u h = refl
-not_bad Bad u h = absurd (miss (0 ∷ 1 ∷ 2 ∷ 3 ∷ []) 4 tt h)
+not_bad Bad u h = absurd (h refl)
 
 module _ (w : List ℕ) where
   pub word_long : 8 < length w → word_of w ≡ Bad

@@ -34,10 +34,10 @@ loop-at-preserved c =
     let k = c.loop-at in
     let in-text = c.loop-at-test.true in
     let fits = place_fits 10 text k.at (omega arith) in
-    rw c.line_end-e.ensures (omega arith, omega arith, k.invariant.2 ∙ span_later text k.at in-text k.false k.invariant.0 c.if-left-eq1.false)
+    rw c.line_end-e.ensures (omega arith, omega arith, k.invariant.2 ∙ span_later text k.at in-text k.left k.invariant.0 c.if-left-eq1.false)
 
 pub returns : goal.returns
 returns c =
     let text = c.args.text.now in
     let k = c.loop-at in
-    sym (k.invariant.2 ∙ span_missing text k.at c.loop-at-test.false k.false k.invariant.0)
+    sym (k.invariant.2 ∙ span_missing text k.at c.loop-at-test.false k.left k.invariant.0)

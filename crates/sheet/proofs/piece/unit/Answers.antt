@@ -12,4 +12,4 @@ pub returns-in-71 : goal.returns-in-71
 returns-in-71 c = rw c.in-71.is
 
 pub returns-in_default : goal.returns-in_default
-returns-in_default c = rw (ne_eqb _ 75 c.in_default-own.rest.0.0.1, ne_eqb _ 77 c.in_default-own.rest.0.1, ne_eqb _ 71 c.in_default-own.rest.1)
+returns-in_default c = rw (ne_eqb _ 75 c.in_default.in_default-own.rest.0.0.1, ne_eqb _ 77 c.in_default.in_default-own.rest.0.1, ne_eqb _ 71 c.in_default.in_default-own.rest.1)

@@ -13,7 +13,7 @@ pub returns-in_default : goal.returns-in_default
 returns-in_default c =
     let l = c.args.line.now in
     let ts = tokens_from l c.args.at in
-    declares_none ts _ c.next-s.ensures.0 (not_name c.next-s.result.token c.in_default-own.keys2)
+    declares_none ts _ c.next-s.ensures.0 (not_name c.next-s.result.token c.in_default.not-Name)
 
 pub returns-then-line-s : goal.returns-then-line-s
 returns-then-line-s c =
