@@ -1,0 +1,15 @@
+-- `narrow::square::cut_square` meets its contract: the span of the range that was read is held, and a held span cuts a good range as the exact one does.
+use Rattle.whole.specs.declared.Range.{Range}
+use Rattle.whole.specs.inner.Held.{held_span}
+use Rattle.whole.specs.Ranges.{square_span}
+use Rattle.narrow.specs.Narrowing.{square_step}
+use mathlib.Core.Path.{refl, ap, ◌∙◌}
+use Rattle.narrow.proofs.Cutting.{done_held}
+use borrow.Author.Rules.{rules}
+use Rattle.narrow.proofs.square.cut_square.Goals as goal
+
+pub returns : goal.returns
+returns c =
+    let s = c in
+    done_held (square_step s.args.z s.args.x) refl c.cut.ensures (s.requires.fact_1.good s.args.z s.requires.fact_2)
+    (c.square-s.ensures ∙ ap (λ (x : Range). held_span (square_span x)) c.range_at.ensures.is)
