@@ -31,6 +31,7 @@ module _ {A : Type 0} (P : A → Type 0) where
   all_at (x ∷ xs) d (suc i) l h = all_at xs d i (omega arith) h.1
 
   pub one_left : (xs ys : List A) → OneOf P xs → OneOf P (xs ++ ys)
+  one_left [] ys h = elim h [ ]
   one_left (x ∷ xs) ys (inl h) = inl h
   one_left (x ∷ xs) ys (inr h) = inr (one_left xs ys h)
 

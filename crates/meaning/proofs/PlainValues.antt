@@ -60,20 +60,20 @@ module _ (ns : List ℕ) (v : Assignment) (p : Point) (agrees : Agrees ns v p) w
   mutual
     unfolding plain_e named_e value_e
 
-    pub value_e : (e : Expr) → named_e ns e ≡ true → value p (plain_e ns e) ≡ value_e v e
-    value_e (one t) h = value_t t h
-    value_e (plus e t) h = let k = both_on (named_e ns e) (named_t ns t) h in ap₂ ◌+ℤ◌ (value_e e k.0) (value_t t k.1)
-    value_e (minus e t) h = let k = both_on (named_e ns e) (named_t ns t) h in ap₂ ◌-ℤ◌ (value_e e k.0) (value_t t k.1)
+    pub value_e_lem : (e : Expr) → named_e ns e ≡ true → value p (plain_e ns e) ≡ value_e v e
+    value_e_lem (one t) h = value_t_lem t h
+    value_e_lem (plus e t) h = let k = both_on (named_e ns e) (named_t ns t) h in ap₂ ◌+ℤ◌ (value_e_lem e k.0) (value_t_lem t k.1)
+    value_e_lem (minus e t) h = let k = both_on (named_e ns e) (named_t ns t) h in ap₂ ◌-ℤ◌ (value_e_lem e k.0) (value_t_lem t k.1)
 
-    value_t : (t : Term) → named_t ns t ≡ true → value p (plain_t ns t) ≡ value_t v t
-    value_t (lone f) h = value_f f h
-    value_t (times t f) h = let k = both_on (named_t ns t) (named_f ns f) h in ap₂ ◌*ℤ◌ (value_t t k.0) (value_f f k.1)
+    value_t_lem : (t : Term) → named_t ns t ≡ true → value p (plain_t ns t) ≡ value_t v t
+    value_t_lem (lone f) h = value_f_lem f h
+    value_t_lem (times t f) h = let k = both_on (named_t ns t) (named_f ns f) h in ap₂ ◌*ℤ◌ (value_t_lem t k.0) (value_f_lem f k.1)
 
-    value_f : (f : Factor) → named_f ns f ≡ true → value p (plain_f ns f) ≡ value_f v f
-    value_f (bare a) h = value_a a h
-    value_f (squared a) h = ap (λ (z : ℤ). z *ℤ z) (value_a a h)
+    value_f_lem : (f : Factor) → named_f ns f ≡ true → value p (plain_f ns f) ≡ value_f v f
+    value_f_lem (bare a) h = value_a_lem a h
+    value_f_lem (squared a) h = ap (λ (z : ℤ). z *ℤ z) (value_a_lem a h)
 
-    value_a : (a : Atom) → named_a ns a ≡ true → value p (plain_a ns a) ≡ value_a v a
-    value_a (number n) h = refl
-    value_a (name n) h = agrees.gives n h
-    value_a (bracket e) h = value_e e h
+    value_a_lem : (a : Atom) → named_a ns a ≡ true → value p (plain_a ns a) ≡ value_a v a
+    value_a_lem (number n) h = refl
+    value_a_lem (name n) h = agrees.gives n h
+    value_a_lem (bracket e) h = value_e_lem e h

@@ -18,7 +18,7 @@ use Rattle.meaning.specs.Plain.{plain_e, named_e, plain_c, opposite, denied}
 use Rattle.meaning.specs.Grounds.{named_all}
 use Rattle.meaning.proofs.Tests.{both_on}
 use Rattle.meaning.proofs.Elements.{all_join, one_left, one_right, one_split}
-use Rattle.meaning.proofs.PlainValues.{Agrees, value, names_e, value_e}
+use Rattle.meaning.proofs.PlainValues.{Agrees, value, names_e, value_e_lem}
 use Rattle.meaning.proofs.TreeValues.{Named}
 use Rattle.meaning.proofs.RuleClauses.{Answers, order}
 
@@ -81,24 +81,28 @@ module _ (ns : List ℕ) where
 
 module _ (ns : List ℕ) (v : Assignment) (p : Point) (agrees : Agrees ns v p) where
   same_left : (c : Comparison) (cs : List Comparison) (h : named_all ns (c ∷ cs) ≡ true) → value p (plain_e ns c.left) ≡ value_e v c.left
-  same_left c cs h = value_e ns v p agrees c.left (named_first ns c cs h).0
+  same_left c cs h = value_e_lem ns v p agrees c.left (named_first ns c cs h).0
 
   same_right : (c : Comparison) (cs : List Comparison) (h : named_all ns (c ∷ cs) ≡ true) → value p (plain_e ns c.right) ≡ value_e v c.right
-  same_right c cs h = value_e ns v p agrees c.right (named_first ns c cs h).1
+  same_right c cs h = value_e_lem ns v p agrees c.right (named_first ns c cs h).1
 
   right_there : (cs : List Comparison) → named_all ns cs ≡ true → OneOf (ComparisonHolds v) cs → OneOf (Answers p) (map (plain_c ns) cs)
+  right_there [] h i = elim i [ ]
   right_there (c ∷ cs) h (inl k) = inl (rw (same_left c cs h, same_right c cs h) k)
   right_there (c ∷ cs) h (inr k) = inr (right_there cs (named_rest ns c cs h) k)
 
   right_back : (cs : List Comparison) → named_all ns cs ≡ true → OneOf (Answers p) (map (plain_c ns) cs) → OneOf (ComparisonHolds v) cs
+  right_back [] h i = elim i [ ]
   right_back (c ∷ cs) h (inl k) = inl (rw (← same_left c cs h, ← same_right c cs h) k)
   right_back (c ∷ cs) h (inr k) = inr (right_back cs (named_rest ns c cs h) k)
 
   off_there : (cs : List Comparison) → named_all ns cs ≡ true → OneOf (λ c. ¬ ComparisonHolds v c) cs → OneOf (Answers p) (map denied (map (plain_c ns) cs))
+  off_there [] h i = elim i [ ]
   off_there (c ∷ cs) h (inl k) = inl (rw (same_left c cs h, same_right c cs h) (deny c.sign _ _ k))
   off_there (c ∷ cs) h (inr k) = inr (off_there cs (named_rest ns c cs h) k)
 
   off_back : (cs : List Comparison) → named_all ns cs ≡ true → OneOf (Answers p) (map denied (map (plain_c ns) cs)) → OneOf (λ c. ¬ ComparisonHolds v c) cs
+  off_back [] h i = elim i [ ]
   off_back (c ∷ cs) h (inl k) = inl (rw (← same_left c cs h, ← same_right c cs h) (denies c.sign _ _ k))
   off_back (c ∷ cs) h (inr k) = inr (off_back cs (named_rest ns c cs h) k)
 

@@ -71,6 +71,13 @@ module _ (p : Point) (q : ℕ) (a b : ℤ) (is : p q ≡ a -ℤ b) where
   literals_back Equal (inl h) (inl i) = omega (ints, minus a b)
   literals_back Differ (inl h) i = λ e. omega (ints, minus a b)
   literals_back Differ (inr (inl h)) i = λ e. omega (ints, minus a b)
+  literals_back AtMost (inr h) i = elim h [ ]
+  literals_back Below (inr h) i = elim h [ ]
+  literals_back AtLeast (inr h) i = elim h [ ]
+  literals_back Above (inr h) i = elim h [ ]
+  literals_back Equal (inl h) (inr i) = elim i [ ]
+  literals_back Equal (inr h) i = elim h [ ]
+  literals_back Differ (inr (inr h)) i = elim h [ ]
 
   -- and each alone, if it is no equality demand
   literals_alone : (t : Turn) (s : Sign) → equal s ≡ 0 → OneOf (True p) (literals_for t s q) → Compares s a b
@@ -90,6 +97,7 @@ is_equal Differ = inl refl
 module _ (p : Point) where
   clause_there : (t : Turn) (k : ℕ) (asked : List Asked) → Shows p k (gap_values p asked) → OneOf (Answers p) asked → OneOf (True p) (clause_of t k asked)
   unfolding opened
+  clause_there t k [] h i = elim i [ ]
   clause_there t k (a ∷ more) h (inl i) =
       one_left (True p) (literals_for t a.sign (place_in k (gap_of a))) (clause_of t (k + size_of (gap_of a)) more)
       (literals_there p (place_in k (gap_of a)) _ _ (at_place p k (gap_of a) (first_shows p k a more h)) t a.sign i)
@@ -103,6 +111,7 @@ module _ (p : Point) where
 
   clause_alone : (t : Turn) (k : ℕ) (asked : List Asked) → equalities asked ≡ 0 → Shows p k (gap_values p asked) → OneOf (True p) (clause_of t k asked) → OneOf (Answers p) asked
   unfolding opened
+  clause_alone t k [] e h i = elim i [ ]
   clause_alone t k (a ∷ more) e h i =
       ⊎_elim
       (λ j. inl (literals_alone p (place_in k (gap_of a)) _ _ (at_place p k (gap_of a) (first_shows p k a more h)) t a.sign (omega arith) j))
@@ -120,6 +129,7 @@ module _ (p : Point) where
 
   clause_both : (k : ℕ) (asked : List Asked) → equalities asked ≤ 1 → Shows p k (gap_values p asked) → OneOf (True p) (clause_of first k asked) → OneOf (True p) (clause_of second k asked) → OneOf (Answers p) asked
   unfolding opened
+  clause_both k [] l h i j = elim i [ ]
   clause_both k (a ∷ more) l h i j = go (split first k a more i) (split second k a more j) (clause_both (k + size_of (gap_of a)) more (omega arith) (rest_shows p k a more h))
     where
       L : Turn → Type 0

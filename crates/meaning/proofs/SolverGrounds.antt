@@ -107,6 +107,7 @@ literals_fine n (AtLeast q c ∷ ls) h =
 -- ---- 8
 made_one : (ps : List Primitive) (q : ℕ) → OneOf (λ e. makes e q ≡ true) ps → made ps q ≡ true
 unfolding made
+made_one [] q i = elim i [ ]
 made_one (p ∷ ps) q (inl h) = rw h
 made_one (p ∷ ps) q (inr h) = rw (made_one ps q h, or-true (makes p q))
 
