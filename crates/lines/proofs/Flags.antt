@@ -92,23 +92,23 @@ module _ (ns : List ℕ) where
   mutual
     unfolding plain_e named_e
 
-    pub named_e : (e : Expr) → named_e ns e ≡ not (strange (length ns) (plain_e ns e))
-    named_e (one t) = named_t t
-    named_e (plus e t) = ap₂ ◌&&◌ (named_e e) (named_t t) ∙ not_or (strange (length ns) (plain_e ns e)) (strange (length ns) (plain_t ns t))
-    named_e (minus e t) = ap₂ ◌&&◌ (named_e e) (named_t t) ∙ not_or (strange (length ns) (plain_e ns e)) (strange (length ns) (plain_t ns t))
+    pub named_e_lem : (e : Expr) → named_e ns e ≡ not (strange (length ns) (plain_e ns e))
+    named_e_lem (one t) = named_t_lem t
+    named_e_lem (plus e t) = ap₂ ◌&&◌ (named_e_lem e) (named_t_lem t) ∙ not_or (strange (length ns) (plain_e ns e)) (strange (length ns) (plain_t ns t))
+    named_e_lem (minus e t) = ap₂ ◌&&◌ (named_e_lem e) (named_t_lem t) ∙ not_or (strange (length ns) (plain_e ns e)) (strange (length ns) (plain_t ns t))
 
-    named_t : (t : Term) → named_t ns t ≡ not (strange (length ns) (plain_t ns t))
-    named_t (lone f) = named_f f
-    named_t (times t f) = ap₂ ◌&&◌ (named_t t) (named_f f) ∙ not_or (strange (length ns) (plain_t ns t)) (strange (length ns) (plain_f ns f))
+    named_t_lem : (t : Term) → named_t ns t ≡ not (strange (length ns) (plain_t ns t))
+    named_t_lem (lone f) = named_f_lem f
+    named_t_lem (times t f) = ap₂ ◌&&◌ (named_t_lem t) (named_f_lem f) ∙ not_or (strange (length ns) (plain_t ns t)) (strange (length ns) (plain_f ns f))
 
-    named_f : (f : Factor) → named_f ns f ≡ not (strange (length ns) (plain_f ns f))
-    named_f (bare a) = named_a a
-    named_f (squared a) = named_a a
+    named_f_lem : (f : Factor) → named_f ns f ≡ not (strange (length ns) (plain_f ns f))
+    named_f_lem (bare a) = named_a_lem a
+    named_f_lem (squared a) = named_a_lem a
 
-    named_a : (a : Atom) → named_a ns a ≡ not (strange (length ns) (plain_a ns a))
-    named_a (number n) = refl
-    named_a (name n) = is_in_is ns n ∙ lt_not_le (place_of ns n) (length ns)
-    named_a (bracket e) = named_e e
+    named_a_lem : (a : Atom) → named_a ns a ≡ not (strange (length ns) (plain_a ns a))
+    named_a_lem (number n) = refl
+    named_a_lem (name n) = is_in_is ns n ∙ lt_not_le (place_of ns n) (length ns)
+    named_a_lem (bracket e) = named_e_lem e
 
   named_all_lem : (cs : List Comparison) → named_all ns cs ≡ not (strange_all (length ns) (map (plain_c ns) cs))
   unfolding named_all
@@ -116,7 +116,7 @@ module _ (ns : List ℕ) where
   named_all_lem (c ∷ cs) =
       let l = strange (length ns) (plain_e ns c.left) in
       let r = strange (length ns) (plain_e ns c.right) in
-      ap₂ ◌&&◌ (ap₂ ◌&&◌ (named_e c.left) (named_e c.right) ∙ not_or l r) (named_all_lem cs)
+      ap₂ ◌&&◌ (ap₂ ◌&&◌ (named_e_lem c.left) (named_e_lem c.right) ∙ not_or l r) (named_all_lem cs)
       ∙ not_or (l || r) (strange_all (length ns) (map (plain_c ns) cs))
 
 strange_append : (d : ℕ) (xs ys : List Asked) → strange_all d (xs ++ ys) ≡ (strange_all d xs || strange_all d ys)

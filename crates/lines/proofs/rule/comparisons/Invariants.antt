@@ -1,0 +1,17 @@
+-- `rule::comparisons` meets its contract. The loop's invariant: what is listed from here on is what is listed from the loop's start on. The tokens that are left fall.
+use mathlib.Core.Path.{sym, ◌∙◌, ap}
+use native.Mathlib.Omega.{arith}
+use lib.ListN.{length}
+use borrow.Author.Rules.{rules}
+use Rattle.sheet.specs.inner.Steps.{tokens_from}
+use Rattle.lines.specs.inner.Emission.{Listing}
+use Rattle.lines.specs.inner.Comparisons.{listing_of}
+use Rattle.lines.proofs.ComparisonCode.{shorter, Walks, walks_start, walks_turn, more_end, more_no, all_no, all_on}
+use Rattle.lines.proofs.FirstTokens.{head_kind}
+use Rattle.lines.proofs.rule.comparisons.Given as goal
+
+abbrev pub invariant-loop-s : goal.invariant-loop-s
+invariant-loop-s l = Walks l.mark l.keys l.line l.initial.i l.initial.all l.initial.ranges l.initial.primitives l.initial.firsts l.initial.seconds l.i l.all l.ranges l.primitives l.firsts l.seconds
+
+abbrev pub decreases-loop-s : goal.decreases-loop-s
+decreases-loop-s l = length (tokens_from l.line l.i)
