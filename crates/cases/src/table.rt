@@ -1,12 +1,23 @@
 // The data files.
-ghost use Rattle.io.specs.Counts.{IsPrefixLen};
+ghost use Rattle.std.specs.Prelude.{IfOk};
+ghost use Rattle.cases.specs.Counts.{IsPrefixLen};
+
+use std::io::Read;
+use std::rt::Files;
+use std::{fs, io};
 
 // Reads a file to the front of a buffer, and gives how many bytes it has.
-pub fn load(name: &[u8], buffer: &mut [u8]) -> usize
-    ensures { IsPrefixLen result buffer.new }
+pub fn load(rt: &impl Files, name: &str, buffer: &mut [u8]) -> io::Result<usize>
+    ensures { IfOk result (λ n. IsPrefixLen n buffer.new) }
 {
-    let fd = os::open_read(name);
-    let n = io::read_full(fd, buffer);
-    libc::close(fd);
-    n
+    let mut file = fs::open(rt, name)?;
+    let mut done: usize = 0;
+    while done < buffer.len() {
+        let more = file.read(&mut buffer[done..])?;
+        if more == 0 {
+            break;
+        }
+        done += more;
+    }
+    Ok(done)
 }
