@@ -16,7 +16,14 @@ fn read(rt: &impl Files, name: &[u8], n: usize, room: &mut [u8]) -> io::Result<u
 }
 
 // Lays out the sheet of a case; gives its length.
-fn lay(rt: &impl Files, table: &[u8], from: usize, named: bool, room: &mut [u8], name: &mut [u8]) -> io::Result<usize> {
+fn lay(
+    rt: &impl Files,
+    table: &[u8],
+    from: usize,
+    named: bool,
+    room: &mut [u8],
+    name: &mut [u8],
+) -> io::Result<usize> {
     if named {
         let n = unfold::unfold(table, from, name);
         return read(rt, name, n, room);
@@ -107,7 +114,12 @@ fn agreements(
 }
 
 // Compares every case of a table.
-pub fn compare(rt: &(impl Files + Print), name: &[u8], table: &[u8], named: bool) -> io::Result<()> {
+pub fn compare(
+    rt: &(impl Files + Print),
+    name: &[u8],
+    table: &[u8],
+    named: bool,
+) -> io::Result<()> {
     let mut room = [0u8; 4200];
     let mut other = [0u8; 256];
     let mut out = [0u8; 4096];
