@@ -1,22 +1,19 @@
 // What the program prints.
+use std::io;
+use std::io::Write;
 
 // A group's name, its number of cases and its number of agreements.
-pub fn group(name: &[u8], cases: usize, agreed: usize) {
-    io::write_all(1, name);
-    io::write_all(1, b" ");
-    io::print_decimal(1, cases as u64);
-    io::write_all(1, b" ");
-    io::print_decimal(1, agreed as u64);
-    io::write_all(1, b"\n");
+pub fn group(rt: &impl Print, name: &[u8], cases: usize, agreed: usize) -> io::Result<()> {
+    let mut out = io::writer(rt);
+    out.write_all(name)?;
+    writeln!(out, " {cases} {agreed}")
 }
 
 // 1 for an agreement; a disagreement prints its case.
-pub fn counted(agrees: bool, case: usize) -> usize {
+pub fn counted(rt: &impl Print, agrees: bool, case: usize) -> io::Result<usize> {
     if agrees {
-        return 1;
+        return Ok(1);
     }
-    io::write_all(1, b"disagreement in case ");
-    io::print_decimal(1, case as u64);
-    io::write_all(1, b"\n");
-    0
+    println!(rt; "disagreement in case {case}")?;
+    Ok(0)
 }

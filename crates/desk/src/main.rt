@@ -3,7 +3,8 @@
 
 ghost use Rattle.desk.specs.Input.{Within};
 
-use libc::{STDERR_FILENO, STDIN_FILENO, STDOUT_FILENO};
+use std::io::{Read, Write};
+use std::process::ExitCode;
 
 // How many bytes were read, or that a read failed.
 #[derive(Drop)]
@@ -12,17 +13,15 @@ enum Input {
     Failed,
 }
 
-// Reads up to the end of standard input, or until the buffer is full.
-fn read_input(buffer: &mut [u8]) -> Input
+// Reads up to the end of an input, or until the buffer is full.
+fn read_input(input: &mut impl Read, buffer: &mut [u8]) -> Input
     ensures { Within result buffer.new }
 {
     let mut done: usize = 0;
     while done < buffer.len() {
-        let got = libc::read(STDIN_FILENO, &mut buffer[done..]);
-        if got < 0 {
+        let Ok(more) = input.read(&mut buffer[done..]) else {
             return Input::Failed;
-        }
-        let more = io::count(got, &buffer[done..]);
+        };
         if more == 0 {
             return Input::Read(done);
         }
@@ -31,19 +30,21 @@ fn read_input(buffer: &mut [u8]) -> Input
     Input::Read(done)
 }
 
-// A text of more than 4,096 bytes is refused however it goes on, so one byte more than that is enough. A program of Rattle has no exit status to
-// give, so a failure is told on standard error.
-fn main() {
+// A text of more than 4,096 bytes is refused however it goes on, so one byte more than that is enough. A failure is told on standard error,
+// and by the status.
+fn main(rt: HostRuntime) -> ExitCode {
     let mut text = [0u8; 4097];
-    let input = read_input(&mut text);
+    let input = read_input(&mut rt.stdin(), &mut text);
     let Input::Read(count) = input else {
-        io::write_all(STDERR_FILENO, b"desk: standard input cannot be read\n");
-        return;
+        let _ = eprintln!(rt; "desk: standard input cannot be read");
+        return ExitCode::FAILURE;
     };
     let mut output = [0u8; 4096];
     let length = answer::answer(&text[..count], &mut output);
-    let written = io::write_all(STDOUT_FILENO, &output[..length]);
-    if !written {
-        io::write_all(STDERR_FILENO, b"desk: the answer cannot be written\n");
+    let written = rt.stdout().write_all(&output[..length]);
+    if written.is_err() {
+        let _ = eprintln!(rt; "desk: the answer cannot be written");
+        return ExitCode::FAILURE;
     }
+    ExitCode::SUCCESS
 }

@@ -1,25 +1,34 @@
 // Sheets and their answers. Each line of a table is a case: a sheet, a bar, and what the desk prints for it. Where the sheet stands in
 // a file of its own, the case has the file's name.
 use cases::{report, text, unfold};
+use std::io;
+use std::rt::Files;
 
 const SPACE: usize = 32;
 
 // Reads the file with a name that is in the front of a text; gives its length.
-fn read(name: &[u8], n: usize, room: &mut [u8]) -> usize {
+fn read(rt: &impl Files, name: &[u8], n: usize, room: &mut [u8]) -> io::Result<usize> {
     let zero: usize = 0;
     if name.len() < n {
-        return 0;
+        return Ok(0);
     }
-    cases::table::load(&name[zero..n], room)
+    cases::table::load(rt, &name[zero..n], room)
 }
 
 // Lays out the sheet of a case; gives its length.
-fn lay(table: &[u8], from: usize, named: bool, room: &mut [u8], name: &mut [u8]) -> usize {
+fn lay(
+    rt: &impl Files,
+    table: &[u8],
+    from: usize,
+    named: bool,
+    room: &mut [u8],
+    name: &mut [u8],
+) -> io::Result<usize> {
     if named {
         let n = unfold::unfold(table, from, name);
-        return read(name, n, room);
+        return read(rt, name, n, room);
     }
-    unfold::unfold(table, from, room)
+    Ok(unfold::unfold(table, from, room))
 }
 
 // Where the first space of a text stands, or its length.
@@ -68,46 +77,53 @@ pub fn answered(sheet: &[u8], n: usize, counted: bool, out: &mut [u8; 4096]) -> 
 
 // Whether a case agrees.
 fn agrees(
+    rt: &impl Files,
     table: &[u8],
     from: usize,
     named: bool,
     room: &mut [u8],
     other: &mut [u8],
     out: &mut [u8; 4096],
-) -> bool {
-    let n = lay(table, from, named, room, other);
+) -> io::Result<bool> {
+    let n = lay(rt, table, from, named, room, other)?;
     let length = answered(room, n, true, out);
     let m = unfold::unfold(table, text::behind_bar(table, from), other);
     if length != m {
-        return false;
+        return Ok(false);
     }
-    text::same(out, length, other, 0)
+    Ok(text::same(out, length, other, 0))
 }
 
 // How many cases of a table agree.
 fn agreements(
+    rt: &(impl Files + Print),
     table: &[u8],
     cases: usize,
     named: bool,
     room: &mut [u8],
     other: &mut [u8],
     out: &mut [u8; 4096],
-) -> usize {
+) -> io::Result<usize> {
     let mut agreed: usize = 0;
     for i in 0..cases {
         let from = text::line_start(table, i);
-        let right = agrees(table, from, named, room, other, out);
-        agreed = std::num::wrapping_add_usize(agreed, report::counted(right, i));
+        let right = agrees(rt, table, from, named, room, other, out)?;
+        agreed = std::num::wrapping_add_usize(agreed, report::counted(rt, right, i)?);
     }
-    agreed
+    Ok(agreed)
 }
 
 // Compares every case of a table.
-pub fn compare(name: &[u8], table: &[u8], named: bool) {
+pub fn compare(
+    rt: &(impl Files + Print),
+    name: &[u8],
+    table: &[u8],
+    named: bool,
+) -> io::Result<()> {
     let mut room = [0u8; 4200];
     let mut other = [0u8; 256];
     let mut out = [0u8; 4096];
     let cases = text::lines(table);
-    let agreed = agreements(table, cases, named, &mut room, &mut other, &mut out);
-    report::group(name, cases, agreed);
+    let agreed = agreements(rt, table, cases, named, &mut room, &mut other, &mut out)?;
+    report::group(rt, name, cases, agreed)
 }

@@ -74,7 +74,7 @@ const SEED: usize = 40_009;
 const SIDE: usize = 5;
 
 // What is left to make of one side: how many numbers and names, how many values wait for an operation, and how many squares are there.
-#[derive(Drop)]
+#[derive(Clone, Copy)]
 struct Side {
     leaves: usize,
     depth: usize,

@@ -1,6 +1,8 @@
 // Small sheets from a fixed pseudo-random sequence, each answered as the desk does and by trying every assignment in order.
 use crate::{answers, drawing, spelling, trying};
 use cases::{report, text};
+use std::io;
+use std::io::Write;
 
 // How many sheets are compared.
 const SHEETS: usize = 5_000;
@@ -63,57 +65,59 @@ fn answer_sheet(p: &[usize], s: &mut [usize], sheet: &mut [u8], out: &mut [u8; 4
 }
 
 // Prints the sheet of a disagreement.
-fn show(sheet: &[u8], n: usize, right: bool) {
+fn show(rt: &impl Print, sheet: &[u8], n: usize, right: bool) -> io::Result<()> {
     let zero: usize = 0;
     if right {
-        return;
+        return Ok(());
     }
     if sheet.len() < n {
-        return;
+        return Ok(());
     }
-    io::write_all(1, &sheet[zero..n]);
+    io::writer(rt).write_all(&sheet[zero..n])
 }
 
 // Whether the desk's answer and the trial of every assignment agree on a sheet.
 fn agrees(
+    rt: &impl Print,
     p: &[usize],
     v: &mut [usize],
     s: &mut [usize],
     sheet: &mut [u8],
     out: &mut [u8; 4096],
-) -> bool {
+) -> io::Result<bool> {
     let length = answer_sheet(p, s, sheet, out);
     let n = spelling::length(s);
     let right = is_right(p, v, s, out, length);
-    show(sheet, n, right);
-    right
+    show(rt, sheet, n, right)?;
+    Ok(right)
 }
 
 // How many sheets agree.
 fn agreements(
+    rt: &impl Print,
     p: &mut [usize],
     v: &mut [usize],
     s: &mut [usize],
     sheet: &mut [u8],
     out: &mut [u8; 4096],
-) -> usize {
+) -> io::Result<usize> {
     let mut agreed: usize = 0;
     for i in 0..SHEETS {
         drawing::make(p, v);
-        let right = agrees(p, v, s, sheet, out);
-        agreed = std::num::wrapping_add_usize(agreed, report::counted(right, i));
+        let right = agrees(rt, p, v, s, sheet, out)?;
+        agreed = std::num::wrapping_add_usize(agreed, report::counted(rt, right, i)?);
     }
-    agreed
+    Ok(agreed)
 }
 
 // Compares every sheet of the sequence.
-pub fn compare() {
+pub fn compare(rt: &impl Print) -> io::Result<()> {
     let mut p = [0usize; 512];
     let mut v = [0usize; 32];
     let mut s = [0usize; 2112];
     let mut sheet = [0u8; 2048];
     let mut out = [0u8; 4096];
     drawing::start(&mut p);
-    let agreed = agreements(&mut p, &mut v, &mut s, &mut sheet, &mut out);
-    report::group(b"small sheets", SHEETS, agreed);
+    let agreed = agreements(rt, &mut p, &mut v, &mut s, &mut sheet, &mut out)?;
+    report::group(rt, b"small sheets", SHEETS, agreed)
 }

@@ -4,6 +4,7 @@
 use crate::translating;
 use crate::translating::{Outcome, Sizes};
 use cases::{report, text, unfold};
+use std::io;
 
 // The refusal of lists that are too short.
 const SHORT: usize = 19;
@@ -140,6 +141,7 @@ fn agrees(
 
 // How many cases of a table agree with so many more numbers in each list.
 fn agreements(
+    rt: &impl Print,
     table: &[u8],
     cases: usize,
     more: usize,
@@ -149,20 +151,20 @@ fn agreements(
     literals: &mut [i64],
     names: &mut [u8],
     room: &mut [u8],
-) -> usize {
+) -> io::Result<usize> {
     let mut agreed: usize = 0;
     for i in 0..cases {
         let from = text::line_start(table, i);
         let right = agrees(
             table, from, more, ranges, primitives, lengths, literals, names, room,
         );
-        agreed = std::num::wrapping_add_usize(agreed, report::counted(right, i));
+        agreed = std::num::wrapping_add_usize(agreed, report::counted(rt, right, i)?);
     }
-    agreed
+    Ok(agreed)
 }
 
 // Compares every case of a table, with so many more numbers in each list than the full sizes.
-pub fn compare(name: &[u8], table: &[u8], more: usize) {
+pub fn compare(rt: &impl Print, name: &[u8], table: &[u8], more: usize) -> io::Result<()> {
     let mut ranges = [0i64; 264];
     let mut primitives = [0i64; 1032];
     let mut lengths = [0i64; 264];
@@ -171,6 +173,7 @@ pub fn compare(name: &[u8], table: &[u8], more: usize) {
     let mut room = [0u8; 4200];
     let cases = text::lines(table);
     let agreed = agreements(
+        rt,
         table,
         cases,
         more,
@@ -180,6 +183,6 @@ pub fn compare(name: &[u8], table: &[u8], more: usize) {
         &mut literals,
         &mut names,
         &mut room,
-    );
-    report::group(name, cases, agreed);
+    )?;
+    report::group(rt, name, cases, agreed)
 }

@@ -1,6 +1,7 @@
 // The lines of a text at their edges. Each line of the table is a case: a line number, where that line starts and ends, and the text,
 // with a slash for each LF.
 use cases::{report, text, unfold};
+use std::io;
 
 // Whether a text has a line where it is said to be.
 fn right(whole: &[u8], line: usize, start: usize, end: usize) -> bool {
@@ -34,20 +35,20 @@ fn agrees(table: &[u8], from: usize, room: &mut [u8]) -> bool {
 }
 
 // How many cases of a table agree.
-fn agreements(table: &[u8], cases: usize, room: &mut [u8]) -> usize {
+fn agreements(rt: &impl Print, table: &[u8], cases: usize, room: &mut [u8]) -> io::Result<usize> {
     let mut agreed: usize = 0;
     for i in 0..cases {
         let from = text::line_start(table, i);
         let fits = agrees(table, from, room);
-        agreed = std::num::wrapping_add_usize(agreed, report::counted(fits, i));
+        agreed = std::num::wrapping_add_usize(agreed, report::counted(rt, fits, i)?);
     }
-    agreed
+    Ok(agreed)
 }
 
 // Compares every case of a table.
-pub fn compare(table: &[u8]) {
+pub fn compare(rt: &impl Print, table: &[u8]) -> io::Result<()> {
     let mut room = [0u8; 256];
     let cases = text::lines(table);
-    let agreed = agreements(table, cases, &mut room);
-    report::group(b"lines of a text", cases, agreed);
+    let agreed = agreements(rt, table, cases, &mut room)?;
+    report::group(rt, b"lines of a text", cases, agreed)
 }

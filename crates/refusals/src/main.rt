@@ -7,31 +7,34 @@ mod lines;
 mod pins;
 mod translating;
 
+use std::io;
+use std::rt::Files;
+
 // The refusals of sheets, with lists of the full sizes and with longer ones.
-fn sheet_refusals() {
-    let mut buffer = io::large_buffer();
-    let n = cases::table::load(b"grounds.txt", &mut buffer);
-    grounds::compare(b"refusals of sheets", &buffer[..n], 0);
-    grounds::compare(b"refusals with longer lists", &buffer[..n], 7);
+fn sheet_refusals(rt: &(impl Files + Print)) -> io::Result<()> {
+    let mut buffer = [0u8; 65536];
+    let n = cases::table::load(rt, b"grounds.txt", &mut buffer)?;
+    grounds::compare(rt, b"refusals of sheets", &buffer[..n], 0)?;
+    grounds::compare(rt, b"refusals with longer lists", &buffer[..n], 7)
 }
 
 // The lines of a text.
-fn text_lines() {
-    let mut buffer = io::large_buffer();
-    let n = cases::table::load(b"lines.txt", &mut buffer);
-    lines::compare(&buffer[..n]);
+fn text_lines(rt: &(impl Files + Print)) -> io::Result<()> {
+    let mut buffer = [0u8; 65536];
+    let n = cases::table::load(rt, b"lines.txt", &mut buffer)?;
+    lines::compare(rt, &buffer[..n])
 }
 
 // The lists of sheets.
-fn pinned_lists() {
-    let mut buffer = io::large_buffer();
-    let n = cases::table::load(b"pins.txt", &mut buffer);
-    pins::compare(&buffer[..n]);
+fn pinned_lists(rt: &(impl Files + Print)) -> io::Result<()> {
+    let mut buffer = [0u8; 65536];
+    let n = cases::table::load(rt, b"pins.txt", &mut buffer)?;
+    pins::compare(rt, &buffer[..n])
 }
 
 // Runs every group.
-fn main() {
-    sheet_refusals();
-    text_lines();
-    pinned_lists();
+fn main(rt: HostRuntime) -> io::Result<()> {
+    sheet_refusals(&rt)?;
+    text_lines(&rt)?;
+    pinned_lists(&rt)
 }

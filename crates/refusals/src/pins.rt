@@ -3,6 +3,7 @@
 use crate::translating::Outcome;
 use crate::{grounds, translating};
 use cases::{report, rows, text, unfold};
+use std::io;
 
 // How many fields stand before the lists.
 const FIELDS: usize = 6;
@@ -106,6 +107,7 @@ fn agrees(
 
 // How many cases of a table agree.
 fn agreements(
+    rt: &impl Print,
     table: &[u8],
     cases: usize,
     ranges: &mut [i64],
@@ -114,20 +116,20 @@ fn agreements(
     literals: &mut [i64],
     names: &mut [u8],
     room: &mut [u8],
-) -> usize {
+) -> io::Result<usize> {
     let mut agreed: usize = 0;
     for i in 0..cases {
         let from = text::line_start(table, i);
         let right = agrees(
             table, from, ranges, primitives, lengths, literals, names, room,
         );
-        agreed = std::num::wrapping_add_usize(agreed, report::counted(right, i));
+        agreed = std::num::wrapping_add_usize(agreed, report::counted(rt, right, i)?);
     }
-    agreed
+    Ok(agreed)
 }
 
 // Compares every case of a table.
-pub fn compare(table: &[u8]) {
+pub fn compare(rt: &impl Print, table: &[u8]) -> io::Result<()> {
     let mut ranges = [0i64; 256];
     let mut primitives = [0i64; 1024];
     let mut lengths = [0i64; 256];
@@ -136,6 +138,7 @@ pub fn compare(table: &[u8]) {
     let mut room = [0u8; 512];
     let cases = text::lines(table);
     let agreed = agreements(
+        rt,
         table,
         cases,
         &mut ranges,
@@ -144,6 +147,6 @@ pub fn compare(table: &[u8]) {
         &mut literals,
         &mut names,
         &mut room,
-    );
-    report::group(b"pinned lists", cases, agreed);
+    )?;
+    report::group(rt, b"pinned lists", cases, agreed)
 }

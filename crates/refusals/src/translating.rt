@@ -25,7 +25,7 @@ pub struct Sizes {
 }
 
 // What a translation answers, in numbers: 0 for an accepted sheet.
-#[derive(Drop)]
+#[derive(Clone, Copy)]
 pub struct Outcome {
     pub number: usize,
     pub line: usize,

@@ -3,6 +3,7 @@
 // literals; then the point or the floor, or nothing after NONE and after a refusal.
 use crate::solving;
 use cases::{lists, report, rows, text};
+use std::io;
 
 // How many fields stand before the lists.
 const FIELDS: usize = 9;
@@ -120,6 +121,7 @@ fn agrees(
 
 // How many cases of a table agree.
 fn agreements(
+    rt: &impl Print,
     table: &[u8],
     cases: usize,
     ranges: &mut [i64],
@@ -128,20 +130,20 @@ fn agreements(
     literals: &mut [i64],
     point: &mut [i64],
     work: &mut [i64],
-) -> usize {
+) -> io::Result<usize> {
     let mut agreed: usize = 0;
     for i in 0..cases {
         let from = text::line_start(table, i);
         let right = agrees(
             table, from, ranges, primitives, lengths, literals, point, work,
         );
-        agreed = std::num::wrapping_add_usize(agreed, report::counted(right, i));
+        agreed = std::num::wrapping_add_usize(agreed, report::counted(rt, right, i)?);
     }
-    agreed
+    Ok(agreed)
 }
 
 // Compares every case of a table.
-pub fn compare(name: &[u8], table: &[u8]) {
+pub fn compare(rt: &impl Print, name: &[u8], table: &[u8]) -> io::Result<()> {
     let mut ranges = [0i64; 16];
     let mut primitives = [0i64; 32];
     let mut lengths = [0i64; 16];
@@ -150,6 +152,7 @@ pub fn compare(name: &[u8], table: &[u8]) {
     let mut work = [0i64; 4096];
     let cases = text::lines(table);
     let agreed = agreements(
+        rt,
         table,
         cases,
         &mut ranges,
@@ -158,6 +161,6 @@ pub fn compare(name: &[u8], table: &[u8]) {
         &mut literals,
         &mut point,
         &mut work,
-    );
-    report::group(name, cases, agreed);
+    )?;
+    report::group(rt, name, cases, agreed)
 }

@@ -3,6 +3,7 @@
 // lengths of the point buffer and the workspace, and up to three edits of the lists below: list, place, number.
 use crate::solving;
 use cases::{lists, report, text};
+use std::io;
 
 // How many fields stand before the edits, and how many edits a case has at most.
 const FIELDS: usize = 10;
@@ -229,6 +230,7 @@ fn agrees(
 
 // How many cases of a table agree.
 fn agreements(
+    rt: &impl Print,
     table: &[u8],
     cases: usize,
     ranges: &mut [i64],
@@ -237,20 +239,20 @@ fn agreements(
     literals: &mut [i64],
     point: &mut [i64],
     work: &mut [i64],
-) -> usize {
+) -> io::Result<usize> {
     let mut agreed: usize = 0;
     for i in 0..cases {
         let from = text::line_start(table, i);
         let right = agrees(
             table, from, ranges, primitives, lengths, literals, point, work,
         );
-        agreed = std::num::wrapping_add_usize(agreed, report::counted(right, i));
+        agreed = std::num::wrapping_add_usize(agreed, report::counted(rt, right, i)?);
     }
-    agreed
+    Ok(agreed)
 }
 
 // Compares every case of a table.
-pub fn compare(name: &[u8], table: &[u8]) {
+pub fn compare(rt: &impl Print, name: &[u8], table: &[u8]) -> io::Result<()> {
     let mut ranges = [0i64; 300];
     let mut primitives = [0i64; 1100];
     let mut lengths = [0i64; 300];
@@ -259,6 +261,7 @@ pub fn compare(name: &[u8], table: &[u8]) {
     let mut work = [0i64; 33100];
     let cases = text::lines(table);
     let agreed = agreements(
+        rt,
         table,
         cases,
         &mut ranges,
@@ -267,6 +270,6 @@ pub fn compare(name: &[u8], table: &[u8]) {
         &mut literals,
         &mut point,
         &mut work,
-    );
-    report::group(name, cases, agreed);
+    )?;
+    report::group(rt, name, cases, agreed)
 }

@@ -3,6 +3,7 @@
 // budget at places 0 to 4, ranges from 8, primitives from 16, lengths from 32, literals from 36, and the sequence's state at 79.
 use crate::solving;
 use cases::{lists, report, sequence};
+use std::io;
 
 // How many problems are compared.
 const PROBLEMS: usize = 5_000;
@@ -526,21 +527,21 @@ fn agrees(p: &[usize], more: usize, tried: &mut [usize]) -> bool {
 }
 
 // How many problems agree.
-fn agreements(p: &mut [usize], tried: &mut [usize]) -> usize {
+fn agreements(rt: &impl Print, p: &mut [usize], tried: &mut [usize]) -> io::Result<usize> {
     let mut agreed: usize = 0;
     for i in 0..PROBLEMS {
         make(p);
         let right = agrees(p, i % 3, tried);
-        agreed = std::num::wrapping_add_usize(agreed, report::counted(right, i));
+        agreed = std::num::wrapping_add_usize(agreed, report::counted(rt, right, i)?);
     }
-    agreed
+    Ok(agreed)
 }
 
 // Compares every problem of the sequence.
-pub fn compare() {
+pub fn compare(rt: &impl Print) -> io::Result<()> {
     let mut p = [0usize; 80];
     let mut tried = [0usize; 8];
     lists::set(&mut p, STATE, SEED);
-    let agreed = agreements(&mut p, &mut tried);
-    report::group(b"small problems", PROBLEMS, agreed);
+    let agreed = agreements(rt, &mut p, &mut tried)?;
+    report::group(rt, b"small problems", PROBLEMS, agreed)
 }
