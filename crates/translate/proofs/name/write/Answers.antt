@@ -22,7 +22,7 @@ pub loop-i-preserved : goal.loop-i-preserved
 loop-i-preserved c =
     let l = c.loop-i in
     let s = c in
-    (omega arith, same_len_mid (8 * l.i) (8 * l.i + 8 - 8 * l.i) l.names c.pad.new.1.0 c.pad.auto.1.0 ∙ l.invariant.1, names_next s.args.keys.now s.args.names.now l.i c.loop-i-test.true s.requires l.names _ _ _ refl refl l.invariant.2 c.pad.ensures)
+    (omega arith, same_len_mid (8 * l.i) (8 * l.i + 8 - 8 * l.i) l.names c.pad.new.slot c.pad.auto.slot ∙ l.invariant.1, names_next s.args.keys.now s.args.names.now l.i c.loop-i-test.true s.requires l.names _ _ _ refl refl l.invariant.2 c.pad.ensures)
 
 pub shape_of-names : goal.shape_of-names
 shape_of-names c = c.loop-i.invariant.1

@@ -24,19 +24,19 @@ pub read_line-lined-requires : goal.read_line-lined-requires
 read_line-lined-requires c = c.loop-at.invariant.standing
 
 pub shape_of-ranges-in-Refused : goal.shape_of-ranges-in-Refused
-shape_of-ranges-in-Refused c = c.read_line-lined.auto.1.1.1.0 ∙ c.loop-at.invariant.standing.full.ranges ∙ sym c.requires.ranges
+shape_of-ranges-in-Refused c = c.read_line-lined.auto.ranges ∙ c.loop-at.invariant.standing.full.ranges ∙ sym c.requires.ranges
 
 pub shape_of-primitives-in-Refused : goal.shape_of-primitives-in-Refused
-shape_of-primitives-in-Refused c = c.read_line-lined.auto.1.1.1.1.0 ∙ c.loop-at.invariant.standing.full.primitives ∙ sym c.requires.primitives
+shape_of-primitives-in-Refused c = c.read_line-lined.auto.primitives ∙ c.loop-at.invariant.standing.full.primitives ∙ sym c.requires.primitives
 
 pub shape_of-lengths-in-Refused : goal.shape_of-lengths-in-Refused
-shape_of-lengths-in-Refused c = c.read_line-lined.auto.1.1.1.1.1.0 ∙ c.loop-at.invariant.standing.full.lengths ∙ sym c.requires.lengths
+shape_of-lengths-in-Refused c = c.read_line-lined.auto.lengths ∙ c.loop-at.invariant.standing.full.lengths ∙ sym c.requires.lengths
 
 pub shape_of-literals-in-Refused : goal.shape_of-literals-in-Refused
-shape_of-literals-in-Refused c = c.read_line-lined.auto.1.1.1.1.1.1.0 ∙ c.loop-at.invariant.standing.full.literals ∙ sym c.requires.literals
+shape_of-literals-in-Refused c = c.read_line-lined.auto.literals ∙ c.loop-at.invariant.standing.full.literals ∙ sym c.requires.literals
 
 pub shape_of-keys-in-Refused : goal.shape_of-keys-in-Refused
-shape_of-keys-in-Refused c = c.read_line-lined.auto.1.1.1.1.1.1.1.0 ∙ c.loop-at.invariant.standing.full.names ∙ sym c.requires.names
+shape_of-keys-in-Refused c = c.read_line-lined.auto.keys ∙ c.loop-at.invariant.standing.full.names ∙ sym c.requires.names
 
 pub returns-in-Refused : goal.returns-in-Refused
 returns-in-Refused c = record { says = walk_fault c.loop-at.invariant c.loop-at-test.true _ c.line_end-end.ensures c.read_line-lined.ensures _ c.in-Refused.is }
@@ -51,7 +51,7 @@ pub loop-at-smaller : goal.loop-at-smaller
 loop-at-smaller c = omega (arith, c.line_end-end.ensures, c.loop-at-test.true)
 
 pub loop-at-preserved : goal.loop-at-preserved
-loop-at-preserved c = walk_next c.loop-at.invariant c.loop-at-test.true _ c.line_end-end.ensures c.read_line-lined.ensures _ c.in-Next.is c.read_line-lined.auto.1.1.1.0 c.read_line-lined.auto.1.1.1.1.0 c.read_line-lined.auto.1.1.1.1.1.0 c.read_line-lined.auto.1.1.1.1.1.1.0 c.read_line-lined.auto.1.1.1.1.1.1.1.0
+loop-at-preserved c = walk_next c.loop-at.invariant c.loop-at-test.true _ c.line_end-end.ensures c.read_line-lined.ensures _ c.in-Next.is c.read_line-lined.auto.ranges c.read_line-lined.auto.primitives c.read_line-lined.auto.lengths c.read_line-lined.auto.literals c.read_line-lined.auto.keys
 
 pub shape_of-ranges : goal.shape_of-ranges
 shape_of-ranges c = c.loop-at.invariant.standing.full.ranges ∙ sym c.requires.ranges
