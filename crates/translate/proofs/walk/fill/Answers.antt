@@ -8,11 +8,12 @@ returns-then-done-eq0 c = walk_undeclared c.read_lines-walked.ensures _ c.in-Rea
 
 pub accept-requires : goal.accept-requires
 accept-requires c =
-    let k = c.read_lines-walked.auto in (
-      walk_standing c.read_lines-walked.ensures _ c.in-Read.is
-          (record { ranges = k.1.1.1.0; primitives = k.1.1.1.1.0; lengths = k.1.1.1.1.1.0; literals = k.1.1.1.1.1.1.0; names = k.1.1.1.1.1.1.1.0 }),
-      c.requires,
-    )
+    let k = c.read_lines-walked.auto in
+    record {
+      standing = walk_standing c.read_lines-walked.ensures _ c.in-Read.is
+          (record { ranges = k.ranges; primitives = k.primitives; lengths = k.lengths; literals = k.literals; names = k.keys });
+      lent = c.requires;
+    }
 
 pub returns-in-Refused : goal.returns-in-Refused
 returns-in-Refused c = walk_refused c.read_lines-walked.ensures _ _ _ _ _ _ _ c.in-Refused.is
