@@ -13,12 +13,9 @@ returns-then-times-most-2 c =
     let z = c.range_at-most in
     let t = c.times in
     let u = c.times-then-times-most in
-    root_quiet a.x a.z a.prior a.b-1.now s.requires.fact_1 s.requires.fact_2 x.ensures z.ensures
+    root_quiet a.x a.z a.prior a.b.now s.requires.fact_1 s.requires.fact_2 x.ensures z.ensures
     (square_most x.result.low z.result.high t.result x.ensures.good.low z.ensures.good.high t.type_inv t.ensures c.if-times-most.true)
     (square_most x.result.high z.result.high u.result x.ensures.good.high z.ensures.good.high u.type_inv u.ensures c.if-times-most-2.true)
-
-pub overflow_sub-r : goal.overflow_sub-r
-overflow_sub-r c = (turn c.down-r.result c.down-r.ensures.near).fits
 
 pub returns : goal.returns
 returns c =
@@ -30,7 +27,7 @@ returns c =
     let t = k.times in
     let l = c.larger in
     let h = c.smaller in
-    root_done a.x a.z a.prior a.b-1.now s.requires.fact_1 s.requires.fact_2 x.ensures z.ensures c.replace.ensures s.requires.fact_4 s.requires.fact_5
+    root_done a.x a.z a.prior a.b.now s.requires.fact_1 s.requires.fact_2 x.ensures z.ensures c.replace.ensures s.requires.fact_4 s.requires.fact_5
     (⊎_elim
     (λ w. inr (square_most x.result.high z.result.high w.3.result x.ensures.good.high z.ensures.good.high w.3.type_inv w.3.ensures w.4.false))
     (λ w. inl (square_most x.result.low z.result.high t.result x.ensures.good.low z.ensures.good.high t.type_inv t.ensures w.false))
