@@ -9,11 +9,5 @@ use Rattle.narrow.proofs.sweep.Goals as goal
 pub returns-in-Empty : goal.returns-in-Empty
 returns-in-Empty c = sweep_empty c.sweep_primitives-status.ensures c.in-Empty.is
 
-pub sweep_clauses-requires : goal.sweep_clauses-requires
-sweep_clauses-requires c =
-    let s = c in
-    let p = c.sweep_primitives-status in
-    (p.ensures.fine, subst (λ (n : ℕ). Placed n s.args.primitives.now s.args.lengths.now s.args.literals.now) (ap (λ (n : ℕ). n / 2) (sym p.auto.0)) s.requires.fact_2)
-
 pub returns : goal.returns
 returns c = sweep_both c.sweep_primitives-status.ensures c.sweep_clauses.ensures

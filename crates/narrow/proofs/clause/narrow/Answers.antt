@@ -7,17 +7,7 @@ use Rattle.narrow.proofs.Reading.{Read, read_none, read_false, read_open, read_m
 use native.Mathlib.Omega.{arith}
 use borrow.Author.Rules.{rules}
 use Rattle.narrow.proofs.clause.narrow.Goals as goal
-
-pub loop-k-init : goal.loop-k-init
-loop-k-init c = read_none c.args.b.now c.args.literals.now (length c.args.literals.now / 3)
-
-pub literal_at-requires : goal.literal_at-requires
-literal_at-requires c = c.requires.fact_2.readable c.loop-k.k c.loop-k-test.true
-
-pub is_false-requires : goal.is_false-requires
-is_false-requires c =
-    let s = c in
-    (s.requires.fact_1, literal_has s.requires.fact_2 c.loop-k.k c.loop-k-test.true c.literal_at.ensures)
+use Rattle.narrow.proofs.clause.narrow.Goals.{then-not-is_false+else-open-n, else-not-is_false}
 
 pub returns-then-open-n : goal.returns-then-open-n
 returns-then-open-n c =
@@ -27,25 +17,11 @@ returns-then-open-n c =
 
 pub loop-k-preserved : goal.loop-k-preserved
 loop-k-preserved c =
-    let k = c in
-    let s = k in
     let x = c.literal_at in
     let f = c.is_false in
-    ⊎_elim
-    (λ w. rw w.2 (read_open s.requires.fact_2 k.loop-k.invariant k.loop-k-test.true x.ensures f.ensures (not-true _ w.0.true) w.1.false))
-    (λ w. rw w.1 (read_false s.requires.fact_2 k.loop-k.invariant k.loop-k-test.true x.ensures f.ensures (not-false _ w.0.false)))
-    c.if-not-is_false.branch
-
+    elim c.if-not-is_false.branch [ then-not-is_false+else-open-n w ↦ rw w.open-is (read_open c.requires.fact_2 c.loop-k.invariant c.loop-k-test.true x.ensures f.ensures w.if-not-is_false.true w.if-open-n.false) | else-not-is_false w ↦ rw w.open-is (read_false c.requires.fact_2 c.loop-k.invariant c.loop-k-test.true x.ensures f.ensures w.if-not-is_false.false) ]
 pub returns-then-open-n-2 : goal.returns-then-open-n-2
 returns-then-open-n-2 c = let s = c in clause_none s.requires.fact_2 c.loop-k.invariant c.loop-k-test.false s.args.prior s.requires.fact_1 (omega arith)
-
-pub literal_at-requires-2 : goal.literal_at-requires-2
-literal_at-requires-2 c = c.requires.fact_2.readable c.loop-k.«open» (omega arith)
-
-pub cut_literal-requires : goal.cut_literal-requires
-cut_literal-requires c =
-    let s = c in
-    (s.requires.fact_1, literal_has s.requires.fact_2 c.loop-k.«open» (omega arith) c.literal_at-2.ensures)
 
 pub returns : goal.returns
 returns c =
