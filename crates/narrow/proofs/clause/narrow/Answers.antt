@@ -1,11 +1,6 @@
 -- `narrow::clause::narrow` meets its contract. The invariant: the positions read that are not false are none, or the one at `open`. The measure is the positions left.
-use mathlib.Core.Logic.{⊎_elim}
-use borrow.Author.Tests.{not-true, not-false}
-use Prim.Native.Nat.{◌-◌, ◌/◌}
-use lib.ListN.{length}
-use Rattle.narrow.proofs.Reading.{Read, read_none, read_false, read_open, read_many, literal_has, clause_none, clause_one}
+use Rattle.narrow.proofs.Reading.{read_false, read_open, read_many, clause_none, clause_one}
 use native.Mathlib.Omega.{arith}
-use borrow.Author.Rules.{rules}
 use Rattle.narrow.proofs.clause.narrow.Goals as goal
 use Rattle.narrow.proofs.clause.narrow.Goals.{then-not-is_false+else-open-n, else-not-is_false}
 
@@ -20,6 +15,7 @@ loop-k-preserved c =
     let x = c.literal_at in
     let f = c.is_false in
     elim c.if-not-is_false.branch [ then-not-is_false+else-open-n w ↦ rw w.open-is (read_open c.requires.fact_2 c.loop-k.invariant c.loop-k-test.true x.ensures f.ensures w.if-not-is_false.true w.if-open-n.false) | else-not-is_false w ↦ rw w.open-is (read_false c.requires.fact_2 c.loop-k.invariant c.loop-k-test.true x.ensures f.ensures w.if-not-is_false.false) ]
+
 pub returns-then-open-n-2 : goal.returns-then-open-n-2
 returns-then-open-n-2 c = let s = c in clause_none s.requires.fact_2 c.loop-k.invariant c.loop-k-test.false s.args.prior s.requires.fact_1 (omega arith)
 

@@ -7,7 +7,6 @@ use Rattle.whole.specs.declared.Range.{Range}
 use Rattle.whole.specs.Ranges.{holds_zero}
 use Rattle.whole.proofs.Kit.{ints, rn}
 use Rattle.whole.proofs.Spans.{clear}
-use borrow.Author.Rules.{rules}
 use Rattle.problem.specs.Problem.{range_at}
 use Rattle.problem.proofs.Tests.{by_bool}
 use Rattle.narrow.specs.Narrowing.{quotient_span, quotient_step}

@@ -3,8 +3,6 @@ use mathlib.Core.Path.{refl, ap₂, ◌∙◌}
 use Rattle.whole.specs.declared.Range.{Range}
 use Rattle.whole.specs.inner.Held.{held_span}
 use Rattle.whole.specs.Ranges.{product_span}
-use Rattle.whole.proofs.Kit.{ints, rn}
-use borrow.Author.Rules.{rules}
 use Rattle.narrow.specs.Narrowing.{product_step}
 use Rattle.narrow.proofs.Cutting.{done_held}
 use Rattle.narrow.proofs.product.cut_product.Goals as goal

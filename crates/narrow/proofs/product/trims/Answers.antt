@@ -1,11 +1,9 @@
 -- y above 0, round it or below it has no 0 at an end; else z tells.
-use mathlib.Core.Path.{◌≡◌, refl}
-use mathlib.Core.Logic.{◌⊎◌, inl, inr, ⊎_elim}
+use mathlib.Core.Path.{◌≡◌}
+use mathlib.Core.Logic.{◌⊎◌, inl, inr}
 use lib.IntN.{pos}
-use borrow.Author.Rules.{rules}
-use Rattle.problem.specs.Problem.{range_at}
 use Rattle.whole.proofs.Kit.{ints, rn}
-use Rattle.narrow.proofs.Trimmed.{trims_above, trims_below, trims_round, trims_ended, trims_read}
+use Rattle.narrow.proofs.Trimmed.{trims_ended, trims_read}
 use Rattle.narrow.proofs.product.trims.Goals as goal
 use Rattle.narrow.proofs.product.trims.Goals.{then-by-lt0+else-by-gt0-2+else-by-lt0-2, else-by-lt0}
 

@@ -4,9 +4,8 @@ use lib.IntN.{neg_ℤ}
 use Rattle.whole.proofs.Quotients.{turn}
 use Rattle.whole.specs.Numbers.{root_up}
 use Rattle.whole.proofs.Spans.{ends_is}
-use Rattle.narrow.proofs.Rooted.{square_least, lower_none, lower_quiet, lower_done}
+use Rattle.narrow.proofs.Rooted.{square_least, lower_quiet, lower_done}
 use Rattle.whole.proofs.Kit.{ints, rn}
-use borrow.Author.Rules.{rules}
 use Rattle.narrow.proofs.square.cut_lowered.Goals as goal
 
 pub returns-then-least-times : goal.returns-then-least-times

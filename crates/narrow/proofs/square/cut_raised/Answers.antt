@@ -2,9 +2,8 @@
 use mathlib.Core.Path.{ap, ◌∙◌}
 use Rattle.whole.specs.Numbers.{root_up}
 use Rattle.whole.proofs.Spans.{ends_is}
-use Rattle.narrow.proofs.Rooted.{square_least, raise_none, raise_quiet, raise_done}
+use Rattle.narrow.proofs.Rooted.{square_least, raise_quiet, raise_done}
 use Rattle.whole.proofs.Kit.{ints, rn}
-use borrow.Author.Rules.{rules}
 use Rattle.narrow.proofs.square.cut_raised.Goals as goal
 
 pub returns-then-least-times : goal.returns-then-least-times

@@ -1,8 +1,6 @@
 -- `narrow::square::cut_root` meets its contract: where the squares of both ends are at most z's high end, x lies between the roots; else an end moves.
-use mathlib.Core.Logic.{inl, inr, ⊎_elim}
-use Rattle.whole.proofs.Quotients.{turn}
+use mathlib.Core.Logic.{inl, inr}
 use Rattle.narrow.proofs.Rooted.{square_most, root_new, root_quiet, root_done}
-use borrow.Author.Rules.{rules}
 use Rattle.narrow.proofs.square.cut_root.Goals as goal
 use Rattle.narrow.proofs.square.cut_root.Goals.{then-times-most+else-times-most-2, else-times-most}
 

@@ -1,10 +1,6 @@
 -- `narrow::square::narrow` meets its contract: the four cuts are done one after the other, and after one that leaves an empty range nothing follows.
-use mathlib.Core.List.{[], ◌∷◌}
-use Rattle.narrow.specs.Narrowing.{root_step, raise_step, lower_step}
-use Rattle.narrow.proofs.Cutting.{done_then, done_ended}
 use Rattle.narrow.proofs.Rooted.{square_leaves}
 use native.Mathlib.Omega.{arith}
-use borrow.Author.Rules.{rules}
 use Rattle.narrow.proofs.square.narrow.Goals as goal
 
 pub cut_root-second-requires : goal.cut_root-second-requires
