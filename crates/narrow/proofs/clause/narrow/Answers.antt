@@ -6,21 +6,16 @@ use Rattle.narrow.proofs.clause.narrow.Goals.{then-not-is_false+else-open-n, els
 
 pub returns-then-open-n : goal.returns-then-open-n
 returns-then-open-n c =
-    let k = c in
-    let s = k in
-    read_many s.requires.fact_2 k.loop-k.invariant k.loop-k-test.true c.literal_at.ensures c.is_false.ensures s.args.prior s.requires.fact_1 (c.if-not-is_false.true) c.if-open-n.true
+    read_many c.requires.fact_2 c.loop-k.invariant c.loop-k-test.true c.literal_at.ensures c.is_false.ensures c.args.prior c.requires.fact_1 c.if-not-is_false.true (omega arith)
 
 pub loop-k-preserved : goal.loop-k-preserved
 loop-k-preserved c =
     let x = c.literal_at in
     let f = c.is_false in
-    elim c.if-not-is_false.branch [ then-not-is_false+else-open-n w ↦ rw w.open-is (read_open c.requires.fact_2 c.loop-k.invariant c.loop-k-test.true x.ensures f.ensures w.if-not-is_false.true w.if-open-n.false) | else-not-is_false w ↦ rw w.open-is (read_false c.requires.fact_2 c.loop-k.invariant c.loop-k-test.true x.ensures f.ensures w.if-not-is_false.false) ]
+    elim c.if-not-is_false.branch [ then-not-is_false+else-open-n w ↦ rw w.open-is (read_open c.requires.fact_2 c.loop-k.invariant c.loop-k-test.true x.ensures f.ensures w.if-not-is_false.true (omega arith)) | else-not-is_false w ↦ rw w.open-is (read_false c.requires.fact_2 c.loop-k.invariant c.loop-k-test.true x.ensures f.ensures w.if-not-is_false.false) ]
 
 pub returns-then-open-n-2 : goal.returns-then-open-n-2
-returns-then-open-n-2 c = let s = c in clause_none s.requires.fact_2 c.loop-k.invariant c.loop-k-test.false s.args.prior s.requires.fact_1 (omega arith)
+returns-then-open-n-2 c = clause_none c.requires.fact_2 c.loop-k.invariant c.loop-k-test.false c.args.prior c.requires.fact_1 (omega arith)
 
 pub returns : goal.returns
-returns c =
-    let k = c in
-    let s = k in
-    clause_one s.requires.fact_2 k.loop-k.invariant k.loop-k-test.false s.args.prior (omega arith) c.literal_at-2.ensures c.cut_literal.ensures
+returns c = clause_one c.requires.fact_2 c.loop-k.invariant c.loop-k-test.false c.args.prior (omega arith) c.literal_at-2.ensures c.cut_literal.ensures
