@@ -16,7 +16,7 @@ returns c =
     let ks = s.args.keys.now in
     named_is (length ks) (place_of ks s.args.name) s.args.ranges.now ps m c.place_of-q.ensures
     (elim c.if-making.branch [
-      then-making w ↦ w.unknown-is ∙ w.if-making.true ∙ or_yes m.unknown _ w.if-making.true
-    | else-making w ↦ or_no m.unknown _ w.if-making.false w.unknown-is
+      | then-making w ↦ w.unknown-is ∙ w.if-making.true ∙ or_yes m.unknown _ w.if-making.true
+      | else-making w ↦ or_no m.unknown _ w.if-making.false w.unknown-is
     ])
     c.span_of.ensures
