@@ -1,0 +1,16 @@
+-- Each turn copies one number more.
+use mathlib.Core.Path.{◌≡◌, refl, ◌∙◌}
+use Prim.Native.Nat.{◌-◌, ◌≤◌}
+use native.Mathlib.Omega.{arith}
+use borrow.Author.Rules.{rules}
+use lib.ListN.{length, length-set}
+use lib.Seq.{paste, paste-zero}
+use Rattle.whole.proofs.Kit.{got}
+use Rattle.search.proofs.Copies.{paste_turn, paste_done}
+use Rattle.search.proofs.boxes.copy.Given as goal
+
+abbrev pub invariant-loop-i : goal.invariant-loop-i
+invariant-loop-i l = (l.dst ≡ paste l.initial.dst 0 l.src l.i) × (l.i ≤ length l.src) × (length l.dst ≡ length l.initial.dst)
+
+abbrev pub decreases-loop-i : goal.decreases-loop-i
+decreases-loop-i l = length l.src - l.i

@@ -1,0 +1,24 @@
+-- Each turn copies one number more behind the first slot, which stays as it was.
+use mathlib.Core.Path.{◌≡◌, refl, ◌∙◌}
+use Prim.Native.Nat.{◌-◌, ◌≤◌}
+use native.Mathlib.Omega.{arith}
+use borrow.Author.Rules.{rules}
+use lib.ListN.{length, length-set}
+use lib.Seq.{paste, paste-zero}
+use Rattle.whole.proofs.Kit.{got}
+use Rattle.search.proofs.Copies.{paste_turn, copy_reads, copy_done}
+use Rattle.search.proofs.boxes.copy_up.Goals as goal
+
+pub loop-i-init : goal.loop-i-init
+loop-i-init c = (paste-zero _ c.args.width c.args.slots.now, search rules, refl)
+
+pub loop-i-preserved : goal.loop-i-preserved
+loop-i-preserved c = (
+  paste_turn _ _ _ _ _ _ _ refl c.loop-i.invariant.0 (omega arith) (omega arith)
+      (got _ c.x-1.given ∙ copy_reads _ _ c.requires _ _ c.loop-i-test.true c.loop-i.invariant.0),
+  omega arith,
+  (simp length-set) ∙ c.loop-i.invariant.2,
+)
+
+pub returns : goal.returns
+returns c = copy_done _ _ c.requires _ _ c.loop-i.invariant.0 c.loop-i.invariant.1 c.loop-i-test.false

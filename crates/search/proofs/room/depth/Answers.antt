@@ -1,0 +1,29 @@
+-- Each turn adds what one quantity more takes to be halved.
+use mathlib.Core.Path.{◌≡◌, ap, ◌∙◌}
+use Prim.Native.Nat.{ℕ, ◌-◌, ◌*◌, ◌≤◌}
+use native.Mathlib.Omega.{arith}
+use borrow.Author.Rules.{rules}
+use Rattle.whole.specs.Numbers.{least_power}
+use Rattle.whole.specs.Ranges.{values}
+use Rattle.whole.specs.declared.Range.{Range}
+use Rattle.search.specs.Depth.{depth}
+use Rattle.search.proofs.Deep.{depth_none, depth_more}
+use Rattle.search.proofs.Judged.{started_fine}
+use Rattle.search.proofs.room.depth.Goals as goal
+
+pub loop-q-init : goal.loop-q-init
+loop-q-init c = omega (arith, depth_none c.args.ranges.now)
+
+pub range_at-range-requires : goal.range_at-range-requires
+range_at-range-requires c = (started_fine c.requires.started, omega (arith, c.requires.leading))
+
+pub loop-q-preserved : goal.loop-q-preserved
+loop-q-preserved c =
+    let r = c.range_at-range.ensures in
+    let h = c.halvings-sum.ensures in
+    omega (arith, depth_more c.args.ranges.now c.loop-q.q, ap (λ (x : Range). least_power (values x)) r.is)
+
+pub returns : goal.returns
+returns c =
+    let e : c.loop-q.q ≡ c.args.leading = omega arith in
+    record { is = c.loop-q.invariant.0 ∙ ap (λ (q : ℕ). depth q c.args.ranges.now) e; small = omega arith }
