@@ -38,7 +38,7 @@ module _ (a : goal.At-loop-left) where
   sweep = sweep_of (primitives_of a.args.primitives.now) (clauses_of a.args.lengths.now (literals_of a.args.literals.now))
 
   abbrev l₀ : List ℤ
-  l₀ = a.copy.new.1.0 ++ drop (length rs) a.args.work.now
+  l₀ = a.copy.new.dst ++ drop (length rs) a.args.work.now
 
   abbrev Here : List ℤ → ℕ → ℕ → Type 0
   Here l k s = Held sweep (lowest (quantities rs)) (quantities rs) a.args.leading (length rs) rs (search_of (problem_of rs a.args.primitives.now a.args.lengths.now a.args.literals.now) a.args.budget) l₀ l k s
@@ -68,13 +68,13 @@ abbrev emptied-at : Place-In-Empty → goal.At-loop-left
 emptied-at c = c.before.before.before.before.before.before
 
 is-empty : (c : Place-In-Empty) → empty ≡ sweep (emptied-at c) (slot (emptied-at c) (emptied-at c).loop.work)
-is-empty c = ap (λ (r : Status). swept_as r c.sweep-swept.new.0) (sym c.in-Empty.is) ∙ c.sweep-swept.ensures.says
+is-empty c = ap (λ (r : Status). swept_as r c.sweep-swept.new.b) (sym c.in-Empty.is) ∙ c.sweep-swept.ensures.says
 
 abbrev changed-at : goal.In-Changed → goal.At-loop-left
 changed-at c = c.before.before.before.before.before.before
 
-is-changed : (c : goal.In-Changed) → changed c.sweep-swept.new.0 ≡ sweep (changed-at c) (slot (changed-at c) (changed-at c).loop.work)
-is-changed c = ap (λ (r : Status). swept_as r c.sweep-swept.new.0) (sym c.in-Changed.is) ∙ c.sweep-swept.ensures.says
+is-changed : (c : goal.In-Changed) → changed c.sweep-swept.new.b ≡ sweep (changed-at c) (slot (changed-at c) (changed-at c).loop.work)
+is-changed c = ap (λ (r : Status). swept_as r c.sweep-swept.new.b) (sym c.in-Changed.is) ∙ c.sweep-swept.ensures.says
 
 -- ---- after a sweep that changed nothing
 module _ (t : goal.In-Same) where
@@ -82,20 +82,20 @@ module _ (t : goal.In-Same) where
   loop-at = t.before.before.before.before.before.before
 
   abbrev work_now : List ℤ
-  work_now = put_mid (loop-at.loop.waiting * length (rs loop-at)) (loop-at.loop.waiting * length (rs loop-at) + length (rs loop-at) - loop-at.loop.waiting * length (rs loop-at)) loop-at.loop.work t.sweep-swept.new.0
+  work_now = put_mid (loop-at.loop.waiting * length (rs loop-at)) (loop-at.loop.waiting * length (rs loop-at) + length (rs loop-at) - loop-at.loop.waiting * length (rs loop-at)) loop-at.loop.work t.sweep-swept.new.b
 
-  is_same : unchanged t.sweep-swept.new.0 ≡ sweep loop-at (slot loop-at loop-at.loop.work)
-  is_same = ap (λ (r : Status). swept_as r t.sweep-swept.new.0) (sym t.in-Same.is) ∙ t.sweep-swept.ensures.says
+  is_same : unchanged t.sweep-swept.new.b ≡ sweep loop-at (slot loop-at loop-at.loop.work)
+  is_same = ap (λ (r : Status). swept_as r t.sweep-swept.new.b) (sym t.in-Same.is) ∙ t.sweep-swept.ensures.says
 
-  as_it_was : t.sweep-swept.new.0 ≡ slot loop-at loop-at.loop.work
+  as_it_was : t.sweep-swept.new.b ≡ slot loop-at loop-at.loop.work
   as_it_was = sweep_same _ _ _ _ (sym is_same)
 
   held_now : Here loop-at work_now (suc (loop-at.loop.false - 1)) loop-at.loop.waiting
-  held_now = held_same (frame_at loop-at) (one_less loop-at t.if-left-eq0.false) _ t.sweep-swept.auto.0 as_it_was
+  held_now = held_same (frame_at loop-at) (one_less loop-at t.if-left-eq0.false) _ t.sweep-swept.auto.b as_it_was
 
-  swept_now : sweep loop-at (slot loop-at work_now) ≡ unchanged t.sweep-swept.new.0
+  swept_now : sweep loop-at (slot loop-at work_now) ≡ unchanged t.sweep-swept.new.b
   swept_now =
-      ap (sweep loop-at) (same_here (frame_at loop-at) (one_less loop-at t.if-left-eq0.false) _ t.sweep-swept.auto.0 as_it_was)
+      ap (sweep loop-at) (same_here (frame_at loop-at) (one_less loop-at t.if-left-eq0.false) _ t.sweep-swept.auto.b as_it_was)
       ∙ sym is_same
 
   -- the choice among the quantities of the slot is the choice among all
@@ -144,7 +144,7 @@ pub lows_to-requires : goal.lows_to-requires
 lows_to-requires c = lows_fit c.before.before.before.before (here_part (frame_at c.before.before.before.before) c.loop-left.invariant.0) c.loop-left.invariant.1
 
 pub shape_of-point-then-left-eq0 : goal.shape_of-point-then-left-eq0
-shape_of-point-then-left-eq0 c = c.lows_to.auto.1.0 ∙ ap length c.loop-left.invariant.1
+shape_of-point-then-left-eq0 c = c.lows_to.auto.point ∙ ap length c.loop-left.invariant.1
 
 pub shape_of-work-then-left-eq0 : goal.shape_of-work-then-left-eq0
 shape_of-work-then-left-eq0 c = c.loop-left.invariant.0.len ∙ l₀_long c.before.before.before.before.before.before.before
@@ -170,19 +170,19 @@ pub shape_of-point-then-waiting-eq0 : goal.shape_of-point-then-waiting-eq0
 shape_of-point-then-waiting-eq0 c = ap length c.loop-left.invariant.1
 
 pub shape_of-work-then-waiting-eq0 : goal.shape_of-work-then-waiting-eq0
-shape_of-work-then-waiting-eq0 c = put_len (frame_at c.before.before.before.before.before.before.before.before) c.loop-left.invariant.0 c.sweep-swept.new.0 c.sweep-swept.auto.0 ∙ l₀_long c.before.before.before.before.before.before.before.before
+shape_of-work-then-waiting-eq0 c = put_len (frame_at c.before.before.before.before.before.before.before.before) c.loop-left.invariant.0 c.sweep-swept.new.b c.sweep-swept.auto.b ∙ l₀_long c.before.before.before.before.before.before.before.before
 
 pub returns-then-waiting-eq0 : goal.returns-then-waiting-eq0
 returns-then-waiting-eq0 c =
     let t = c.before.before in
     let a = c.before.before.before.before.before.before.before.before in
-    ends a.requires _ a.copy.ensures _ _ _ _ _ (put_rest (frame_at a) a.loop-left.invariant.0 c.sweep-swept.new.0 c.sweep-swept.auto.0)
+    ends a.requires _ a.copy.ensures _ _ _ _ _ (put_rest (frame_at a) a.loop-left.invariant.0 c.sweep-swept.new.b c.sweep-swept.auto.b)
     (none_is (frame_at a) (one_less a c.if-left-eq0.false) c.if-waiting-eq0.true (is-empty t)) c.after-then-waiting-eq0.ensures a.loop-left.invariant.1
 
 pub loop-left-preserved-in-Empty : goal.loop-left-preserved-in-Empty
 loop-left-preserved-in-Empty c =
     let a = c.before.before.before.before.before.before.before in (
-      held_taken (frame_at a) (one_less a c.if-left-eq0.false) c.sweep-swept.new.0 c.sweep-swept.auto.0 c.if-waiting-eq0.false (is-empty c.before),
+      held_taken (frame_at a) (one_less a c.if-left-eq0.false) c.sweep-swept.new.b c.sweep-swept.auto.b c.if-waiting-eq0.false (is-empty c.before),
       a.loop-left.invariant.1,
       omega arith,
     )
@@ -190,7 +190,7 @@ loop-left-preserved-in-Empty c =
 pub loop-left-preserved-in-Changed : goal.loop-left-preserved-in-Changed
 loop-left-preserved-in-Changed c =
     let a = c.before.before.before.before.before.before in (
-      held_changed (frame_at a) (one_less a c.if-left-eq0.false) _ c.sweep-swept.auto.0 (is-changed c),
+      held_changed (frame_at a) (one_less a c.if-left-eq0.false) _ c.sweep-swept.auto.b (is-changed c),
       a.loop-left.invariant.1,
       omega arith,
     )
@@ -210,7 +210,7 @@ lows_to-requires-in_default c =
     lows_fit (loop-at t) (here_part (frame_at (loop-at t)) (held_now t)) (loop-at t).loop.invariant.1
 
 pub shape_of-point-in_default : goal.shape_of-point-in_default
-shape_of-point-in_default c = c.lows_to-in_default.auto.1.0 ∙ ap length c.loop-left.invariant.1
+shape_of-point-in_default c = c.lows_to-in_default.auto.point ∙ ap length c.loop-left.invariant.1
 
 pub shape_of-work-in_default : goal.shape_of-work-in_default
 shape_of-work-in_default c = (held_now c.before.before.before.before.before.before.before.before.before.before.before).len ∙ l₀_long c.before.before.before.before.before.before.before.before.before.before.before.before.before.before.before.before.before

@@ -35,13 +35,13 @@ pub needed-needed-requires : goal.needed-needed-requires
 needed-needed-requires c = leading_led (leads-at c.before.before.before.before.before) (ready _ _ _ _ _ _ _ _ (sound-at c.before.before.before.before.before)).started
 
 pub slice_bounds-clear-end : goal.slice_bounds-clear-end
-slice_bounds-clear-end c = room_in _ _ _ _ _ _ _ _ (sound-at c.before.before.before.before.before.before) _ (leading_count (leads-at c.before.before.before.before.before.before)) c.search-solved.new.1.1.1.1.1.1.1.0 c.search-solved.auto.1.1.1.1.1.1.1.0 _ c.needed-needed.ensures
+slice_bounds-clear-end c = room_in _ _ _ _ _ _ _ _ (sound-at c.before.before.before.before.before.before) _ (leading_count (leads-at c.before.before.before.before.before.before)) c.search-solved.new.work c.search-solved.auto.work _ c.needed-needed.ensures
 
 pub slice_bounds-clear-end-2 : goal.slice_bounds-clear-end-2
-slice_bounds-clear-end-2 c = room_long _ _ _ _ _ _ _ _ (sound-at c.before.before.before.before.before.before.before) _ (leading_count (leads-at c.before.before.before.before.before.before.before)) c.search-solved.new.1.1.1.1.1.1.1.0 c.search-solved.auto.1.1.1.1.1.1.1.0 _ c.needed-needed.ensures
+slice_bounds-clear-end-2 c = room_long _ _ _ _ _ _ _ _ (sound-at c.before.before.before.before.before.before.before) _ (leading_count (leads-at c.before.before.before.before.before.before.before)) c.search-solved.new.work c.search-solved.auto.work _ c.needed-needed.ensures
 
 pub returns : goal.returns
 returns c =
     let t = c.before.before.before.before.before.before.before.before.before in
-    solves _ _ _ _ _ _ _ _ (sound-at t) _ (leading_count (leads-at t)) c.search-solved.new.1.1.1.1.1.1.1.0 c.search-solved.auto.1.1.1.1.1.1.1.0 _ c.needed-needed.ensures _ _ _ _
+    solves _ _ _ _ _ _ _ _ (sound-at t) _ (leading_count (leads-at t)) c.search-solved.new.work c.search-solved.auto.work _ c.needed-needed.ensures _ _ _ _
     (budget_is _ _ _ _ _ _ _ _ (sound-at t) t.ranges.budget) c.search-solved.ensures c.clear.ensures
