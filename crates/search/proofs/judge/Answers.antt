@@ -11,6 +11,7 @@ use Rattle.problem.specs.declared.Judged.TheVariants.{Sound}
 use Rattle.search.specs.Solve.{bad_budget}
 use Rattle.search.proofs.Judged.{judges, judges_leadable, first_met, budget_met, leading_met, point_met, work_met, none_met, under_zero, over_most, read_leading, Leads, leading_cast, leading_led, leading_room}
 use Rattle.search.proofs.judge.Goals as goal
+use Rattle.search.proofs.judge.Goals.{then-budget-lt0-via-then-budget-lt0, then-budget-lt0-via-else-budget-lt0+then-budget-gt-MOST}
 use Rattle.search.proofs.judge.Lts as lts
 use Rattle.search.proofs.judge.Reads as reads
 use Rattle.search.proofs.judge.Tie as ties
@@ -25,7 +26,7 @@ module _ (c : goal.Else-budget-gt-MOST) where
   sound = sym c.judge-judged.ensures ∙ c.in_default.is
 
   counted : bad_budget c.args.budget ≡ false
-  counted = over_most _ _ (rd c.ranges.budget) c.then-budget-lt0.false _ c.if-budget-gt-MOST.false
+  counted = over_most _ _ (rd c.ranges.budget) c.if-budget-lt0.false _ c.if-budget-gt-MOST.false
 
 -- nor 8
 led : (c : Place-Else-bad_leading) → Leads c.args.ranges.now c.args.primitives.now c.args.leading
@@ -41,7 +42,10 @@ returns-in-Refused c = first_met _ _ _ _ _ _ _ _ _ (sym c.judge-judged.ensures �
 pub returns-then-budget-lt0 : goal.returns-then-budget-lt0
 returns-then-budget-lt0 c =
     budget_met _ _ _ _ _ _ _ _ (sym c.judge-judged.ensures ∙ c.in_default.is)
-    (⊎_elim (λ w. under_zero _ _ (rd c.ranges.budget) w.true) (λ w. over_most _ _ (rd c.ranges.budget) w.0.false _ w.1.true) c.then-budget-lt0.branch)
+    (elim c.then-budget-lt0.branch [
+      then-budget-lt0-via-then-budget-lt0 w ↦ under_zero _ _ (rd c.ranges.budget) w.if-budget-lt0.true
+    | then-budget-lt0-via-else-budget-lt0+then-budget-gt-MOST w ↦ over_most _ _ (rd c.ranges.budget) w.if-budget-lt0.false _ w.if-budget-gt-MOST.true
+    ])
 
 pub bad_leading-requires : goal.bad_leading-requires
 bad_leading-requires c = judges_leadable (judges _ _ _ _ (sound c))

@@ -14,8 +14,8 @@ use Rattle.search.proofs.room.depth.Goals as goal
 pub loop-q-init : goal.loop-q-init
 loop-q-init c = omega (arith, depth_none c.args.ranges.now)
 
-pub range_at-range-requires : goal.range_at-range-requires
-range_at-range-requires c = (started_fine c.requires.started, omega (arith, c.requires.leading))
+pub range_at-range-requires-clause-fact_1 : goal.range_at-range-requires-clause-fact_1
+range_at-range-requires-clause-fact_1 c = started_fine c.requires.started
 
 pub loop-q-preserved : goal.loop-q-preserved
 loop-q-preserved c =
