@@ -9,15 +9,9 @@ use lib.IntN.{pos}
 use Rattle.search.proofs.Copies.{fill_turn, fill_done}
 use Rattle.search.proofs.boxes.clear.Goals as goal
 
-pub loop-i-init : goal.loop-i-init
-loop-i-init c = (refl, search rules, refl)
-
 pub loop-i-preserved : goal.loop-i-preserved
 loop-i-preserved c = (
   fill_turn _ _ _ c.loop-i.invariant.0 (omega arith),
   omega arith,
   (simp length-set) ∙ c.loop-i.invariant.2,
 )
-
-pub returns : goal.returns
-returns c = fill_done _ _ _ c.loop-i.invariant.0 c.loop-i.invariant.1 (omega arith)

@@ -9,15 +9,9 @@ use Rattle.whole.proofs.Kit.{got}
 use Rattle.search.proofs.Copies.{paste_turn, paste_done}
 use Rattle.search.proofs.boxes.copy.Goals as goal
 
-pub loop-i-init : goal.loop-i-init
-loop-i-init c = (paste-zero _ 0 c.args.src.now, search rules, refl)
-
 pub loop-i-preserved : goal.loop-i-preserved
 loop-i-preserved c = (
   paste_turn _ _ _ 0 c.loop-i.i _ _ (omega arith) c.loop-i.invariant.0 (omega arith) (omega arith) (got _ c.x-1.given),
   omega arith,
   (simp length-set) ∙ c.loop-i.invariant.2,
 )
-
-pub returns : goal.returns
-returns c = paste_done _ _ _ _ c.requires c.loop-i.invariant.0 c.loop-i-test.false

@@ -9,9 +9,6 @@ use Rattle.whole.proofs.Kit.{got}
 use Rattle.search.proofs.Copies.{paste_turn, copy_reads, copy_done}
 use Rattle.search.proofs.boxes.copy_up.Goals as goal
 
-pub loop-i-init : goal.loop-i-init
-loop-i-init c = (paste-zero _ c.args.width c.args.slots.now, search rules, refl)
-
 pub loop-i-preserved : goal.loop-i-preserved
 loop-i-preserved c = (
   paste_turn _ _ _ _ _ _ _ refl c.loop-i.invariant.0 (omega arith) (omega arith)
@@ -19,6 +16,3 @@ loop-i-preserved c = (
   omega arith,
   (simp length-set) ∙ c.loop-i.invariant.2,
 )
-
-pub returns : goal.returns
-returns c = copy_done _ _ c.requires _ _ c.loop-i.invariant.0 c.loop-i.invariant.1 c.loop-i-test.false

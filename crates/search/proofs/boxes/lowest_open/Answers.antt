@@ -8,9 +8,6 @@ use Rattle.search.specs.Search.{open_from, lowest}
 use Rattle.search.proofs.Choice.{open_found, open_turn, open_none}
 use Rattle.search.proofs.boxes.lowest_open.Goals as goal
 
-pub loop-q-init : goal.loop-q-init
-loop-q-init c = (search rules, ap (λ (k : ℕ). open_from c.args.b.now k 0) (omega arith))
-
 pub returns-then-b-q : goal.returns-then-b-q
 returns-then-b-q c =
     open_found _ _ _ c.loop-q.invariant.1 _ _ (got _ c.t9-1.given) (got _ c.t14-1.given)

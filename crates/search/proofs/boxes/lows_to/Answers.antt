@@ -11,9 +11,6 @@ use Rattle.search.proofs.Choice.{lows_length}
 use Rattle.search.proofs.Copies.{lows_turn, paste_done}
 use Rattle.search.proofs.boxes.lows_to.Goals as goal
 
-pub loop-q-init : goal.loop-q-init
-loop-q-init c = (paste-zero _ 0 (lows c.args.b.now), search rules, refl)
-
 pub loop-q-preserved : goal.loop-q-preserved
 loop-q-preserved c = (
   lows_turn _ _ _ _ _ c.requires c.loop-q.invariant.0 (omega arith) (got _ c.x-1.given),

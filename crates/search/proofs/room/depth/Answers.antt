@@ -14,16 +14,8 @@ use Rattle.search.proofs.room.depth.Goals as goal
 pub loop-q-init : goal.loop-q-init
 loop-q-init c = omega (arith, depth_none c.args.ranges.now)
 
-pub range_at-range-requires-clause-fact_1 : goal.range_at-range-requires-clause-fact_1
-range_at-range-requires-clause-fact_1 c = started_fine c.requires.started
-
 pub loop-q-preserved : goal.loop-q-preserved
 loop-q-preserved c =
     let r = c.range_at-range.ensures in
     let h = c.halvings-sum.ensures in
     omega (arith, depth_more c.args.ranges.now c.loop-q.q, ap (λ (x : Range). least_power (values x)) r.is)
-
-pub returns : goal.returns
-returns c =
-    let e : c.loop-q.q ≡ c.args.leading = omega arith in
-    record { is = c.loop-q.invariant.0 ∙ ap (λ (q : ℕ). depth q c.args.ranges.now) e; small = omega arith }
