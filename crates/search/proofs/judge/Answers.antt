@@ -24,8 +24,8 @@ pub returns-then-budget-lt0 : goal.returns-then-budget-lt0
 returns-then-budget-lt0 c =
     budget_met _ _ _ _ _ _ _ _ (sym c.judge-judged.ensures ∙ c.in_default.is)
     (elim c.then-budget-lt0.branch [
-      then-budget-lt0-via-then-budget-lt0 w ↦ under_zero _ _ (rd c.ranges.budget) w.if-budget-lt0.true
-    | then-budget-lt0-via-else-budget-lt0+then-budget-gt-MOST w ↦ over_most _ _ (rd c.ranges.budget) w.if-budget-lt0.false _ w.if-budget-gt-MOST.true
+      | then-budget-lt0-via-then-budget-lt0 w ↦ under_zero _ _ (rd c.ranges.budget) w.if-budget-lt0.true
+      | then-budget-lt0-via-else-budget-lt0+then-budget-gt-MOST w ↦ over_most _ _ (rd c.ranges.budget) w.if-budget-lt0.false _ w.if-budget-gt-MOST.true
     ])
 
 pub bad_leading-requires : goal.bad_leading-requires

@@ -1,26 +1,20 @@
 -- The loop keeps `Held`: each way round is one law of Held.antt, and each return is `ends` of Searching.antt.
 use mathlib.Core.Path.{◌≡◌, refl, sym, ap, ◌∙◌}
 use mathlib.Core.List.{List, ◌++◌}
-use Prim.Native.Nat.{ℕ, suc, ◌+◌, ◌-◌, ◌*◌, ◌≤◌}
+use Prim.Native.Nat.{ℕ}
 use native.Mathlib.Omega.{arith}
 use borrow.Author.Rules.{rules}
-use borrow.Rule.Slice.PartMut.{mid_of, put_mid}
-use lib.ListN.{length, drop}
 use lib.IntN.{ℤ}
 use Rattle.problem.specs.Problem.{Box, quantities}
-use Rattle.problem.specs.Lists.{primitives_of, literals_of, clauses_of, problem_of}
-use Rattle.narrow.specs.Cuts.{Swept, empty, changed, unchanged}
-use Rattle.narrow.specs.Sweep.{sweep_of}
+use Rattle.narrow.specs.Cuts.{Swept}
 use Rattle.narrow.specs.inner.Done.{swept_as}
 use Rattle.narrow.specs.declared.Status.{Status}
 use Rattle.narrow.proofs.SweepLaws.{sweep_same}
 use Rattle.narrow.specs.Parts.{Part}
-use Rattle.search.specs.Search.{lower_part, upper_part, lowest, search_of}
-use Rattle.search.specs.inner.Ready.{Ready}
+use Rattle.search.specs.Search.{lower_part, upper_part, lowest}
 use Rattle.search.specs.declared.Open.{Open}
-use Rattle.search.specs.declared.Open.TheVariants.{At}
 use Rattle.search.proofs.Held.{here_part, stopped_is, put_rest, none_is, held_one, held_changed, held_taken, settled, found_is, can_split, next_in, two_long, first_is, held_split}
-use Rattle.search.proofs.Searching.{part_count, part_splits, frame, begins, ends}
+use Rattle.search.proofs.Searching.{part_count, part_fine, part_placed, part_splits, frame, begins, ends}
 use Rattle.search.proofs.search.Goals as goal
 
 -- what a sweep's status says of it
@@ -38,6 +32,11 @@ pub returns-then-left-eq0 : goal.returns-then-left-eq0
 returns-then-left-eq0 c =
     let h = c.loop-left.invariant.0 in
     ends c.requires _ c.copy.ensures _ _ _ _ _ h.rest (stopped_is (frame c.requires _ c.copy.ensures) h c.if-left-eq0.true) c.after.ensures c.lows_to.ensures
+
+pub sweep-swept-requires : goal.sweep-swept-requires
+sweep-swept-requires c =
+    let p = here_part (frame c.requires _ c.copy.ensures) c.loop-left.invariant.0 in
+    record { fact_1 = part_fine p c.requires.started; fact_2 = part_placed p c.requires.placed }
 
 pub returns-then-waiting-eq0 : goal.returns-then-waiting-eq0
 returns-then-waiting-eq0 c =

@@ -1,11 +1,8 @@
 -- A refusal is `refuses` of Solving.antt; otherwise the judgement makes the search ready, and what it leaves is cleared, by `solves`.
-use mathlib.Core.Path.{◌≡◌, ◌∙◌}
-use borrow.Author.Rules.{rules}
+use mathlib.Core.Path.{◌∙◌}
 use Rattle.whole.proofs.Kit.{index, rd}
-use Rattle.problem.specs.declared.Judged.TheVariants.{Sound}
-use Rattle.search.specs.Solve.{judged}
-use Rattle.search.proofs.Judged.{Leads, ready, leading_cast, leading_count, leading_led}
-use Rattle.search.proofs.Solving.{read_judged, refuses, budget_sign, budget_is, leads, ready_with, room_in, room_long, solves}
+use Rattle.search.proofs.Judged.{ready, leading_cast, leading_count, leading_led}
+use Rattle.search.proofs.Solving.{read_judged, budget_sign, budget_is, leads, ready_with, room_in, room_long, solves}
 use Rattle.search.proofs.solve.Goals as goal
 
 pub overflow_cast-leading : goal.overflow_cast-leading

@@ -1,12 +1,8 @@
 -- Each turn sets one number more to 0.
-use mathlib.Core.Path.{◌≡◌, refl, ◌∙◌}
-use mathlib.Core.List.{◌++◌}
-use Prim.Native.Nat.{◌-◌, ◌≤◌}
+use mathlib.Core.Path.{◌∙◌}
 use native.Mathlib.Omega.{arith}
-use borrow.Author.Rules.{rules}
-use lib.ListN.{length, drop, replicate, length-set}
-use lib.IntN.{pos}
-use Rattle.search.proofs.Copies.{fill_turn, fill_done}
+use lib.ListN.{length-set}
+use Rattle.search.proofs.Copies.{fill_turn}
 use Rattle.search.proofs.boxes.clear.Goals as goal
 
 pub loop-i-preserved : goal.loop-i-preserved

@@ -1,12 +1,9 @@
 -- Each turn sets one number more to 0.
-use mathlib.Core.Path.{◌≡◌, refl, ◌∙◌}
+use mathlib.Core.Path.{◌≡◌}
 use mathlib.Core.List.{◌++◌}
 use Prim.Native.Nat.{◌-◌, ◌≤◌}
-use native.Mathlib.Omega.{arith}
-use borrow.Author.Rules.{rules}
-use lib.ListN.{length, drop, replicate, length-set}
+use lib.ListN.{length, drop, replicate}
 use lib.IntN.{pos}
-use Rattle.search.proofs.Copies.{fill_turn, fill_done}
 use Rattle.search.proofs.boxes.clear.Given as goal
 
 abbrev pub invariant-loop-i : goal.invariant-loop-i

@@ -1,12 +1,9 @@
 -- Each turn copies one number more.
-use mathlib.Core.Path.{◌≡◌, refl, ◌∙◌}
-use Prim.Native.Nat.{◌-◌, ◌≤◌}
+use mathlib.Core.Path.{◌∙◌}
 use native.Mathlib.Omega.{arith}
-use borrow.Author.Rules.{rules}
-use lib.ListN.{length, length-set}
-use lib.Seq.{paste, paste-zero}
+use lib.ListN.{length-set}
 use Rattle.whole.proofs.Kit.{got}
-use Rattle.search.proofs.Copies.{paste_turn, paste_done}
+use Rattle.search.proofs.Copies.{paste_turn}
 use Rattle.search.proofs.boxes.copy.Goals as goal
 
 pub loop-i-preserved : goal.loop-i-preserved

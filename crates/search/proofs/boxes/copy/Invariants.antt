@@ -1,12 +1,8 @@
 -- Each turn copies one number more.
-use mathlib.Core.Path.{◌≡◌, refl, ◌∙◌}
+use mathlib.Core.Path.{◌≡◌}
 use Prim.Native.Nat.{◌-◌, ◌≤◌}
-use native.Mathlib.Omega.{arith}
-use borrow.Author.Rules.{rules}
-use lib.ListN.{length, length-set}
-use lib.Seq.{paste, paste-zero}
-use Rattle.whole.proofs.Kit.{got}
-use Rattle.search.proofs.Copies.{paste_turn, paste_done}
+use lib.ListN.{length}
+use lib.Seq.{paste}
 use Rattle.search.proofs.boxes.copy.Given as goal
 
 abbrev pub invariant-loop-i : goal.invariant-loop-i

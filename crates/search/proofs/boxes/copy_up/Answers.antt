@@ -1,12 +1,9 @@
 -- Each turn copies one number more behind the first slot, which stays as it was.
-use mathlib.Core.Path.{◌≡◌, refl, ◌∙◌}
-use Prim.Native.Nat.{◌-◌, ◌≤◌}
+use mathlib.Core.Path.{refl, ◌∙◌}
 use native.Mathlib.Omega.{arith}
-use borrow.Author.Rules.{rules}
-use lib.ListN.{length, length-set}
-use lib.Seq.{paste, paste-zero}
+use lib.ListN.{length-set}
 use Rattle.whole.proofs.Kit.{got}
-use Rattle.search.proofs.Copies.{paste_turn, copy_reads, copy_done}
+use Rattle.search.proofs.Copies.{paste_turn, copy_reads}
 use Rattle.search.proofs.boxes.copy_up.Goals as goal
 
 pub loop-i-preserved : goal.loop-i-preserved

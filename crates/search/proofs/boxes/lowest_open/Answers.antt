@@ -1,10 +1,6 @@
 -- Each quantity passed has one value, so the choice among all is the choice among those left.
-use mathlib.Core.Path.{◌≡◌, ap}
-use Prim.Native.Nat.{ℕ, ◌-◌, ◌≤◌}
 use native.Mathlib.Omega.{arith}
-use borrow.Author.Rules.{rules}
 use Rattle.whole.proofs.Kit.{got}
-use Rattle.search.specs.Search.{open_from, lowest}
 use Rattle.search.proofs.Choice.{open_found, open_turn, open_none}
 use Rattle.search.proofs.boxes.lowest_open.Goals as goal
 

@@ -1,11 +1,7 @@
 -- Each quantity passed has one value, so the choice among all is the choice among those left.
-use mathlib.Core.Path.{◌≡◌, ap}
-use Prim.Native.Nat.{ℕ, ◌-◌, ◌≤◌}
-use native.Mathlib.Omega.{arith}
-use borrow.Author.Rules.{rules}
-use Rattle.whole.proofs.Kit.{got}
+use mathlib.Core.Path.{◌≡◌}
+use Prim.Native.Nat.{◌-◌, ◌≤◌}
 use Rattle.search.specs.Search.{open_from, lowest}
-use Rattle.search.proofs.Choice.{open_found, open_turn, open_none}
 use Rattle.search.proofs.boxes.lowest_open.Given as goal
 
 abbrev pub invariant-loop-q : goal.invariant-loop-q

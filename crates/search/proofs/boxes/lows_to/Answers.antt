@@ -1,10 +1,8 @@
 -- Each turn writes one low end more.
-use mathlib.Core.Path.{◌≡◌, refl, ◌∙◌}
-use Prim.Native.Nat.{◌-◌, ◌≤◌}
+use mathlib.Core.Path.{◌≡◌, ◌∙◌}
+use Prim.Native.Nat.{◌≤◌}
 use native.Mathlib.Omega.{arith}
-use borrow.Author.Rules.{rules}
 use lib.ListN.{length, length-set}
-use lib.Seq.{paste, paste-zero}
 use Rattle.whole.proofs.Kit.{got}
 use Rattle.search.specs.Solve.{lows}
 use Rattle.search.proofs.Choice.{lows_length}

@@ -1,14 +1,9 @@
 -- Each turn writes one low end more.
-use mathlib.Core.Path.{◌≡◌, refl, ◌∙◌}
+use mathlib.Core.Path.{◌≡◌}
 use Prim.Native.Nat.{◌-◌, ◌≤◌}
-use native.Mathlib.Omega.{arith}
-use borrow.Author.Rules.{rules}
-use lib.ListN.{length, length-set}
-use lib.Seq.{paste, paste-zero}
-use Rattle.whole.proofs.Kit.{got}
+use lib.ListN.{length}
+use lib.Seq.{paste}
 use Rattle.search.specs.Solve.{lows}
-use Rattle.search.proofs.Choice.{lows_length}
-use Rattle.search.proofs.Copies.{lows_turn, paste_done}
 use Rattle.search.proofs.boxes.lows_to.Given as goal
 
 abbrev pub invariant-loop-q : goal.invariant-loop-q

@@ -1,8 +1,6 @@
 -- The two ends that are set make the two parts of the two copies.
-use borrow.Author.Rules.{rules}
-use lib.ListN.{length-set}
 use Rattle.whole.proofs.Kit.{got}
-use Rattle.search.proofs.TwoSlots.{ends_near, last_in, above_fits, parts_are}
+use Rattle.search.proofs.TwoSlots.{parts_are}
 use Rattle.search.proofs.boxes.split.Goals as goal
 
 pub returns : goal.returns

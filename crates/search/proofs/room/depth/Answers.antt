@@ -1,14 +1,10 @@
 -- Each turn adds what one quantity more takes to be halved.
-use mathlib.Core.Path.{◌≡◌, ap, ◌∙◌}
-use Prim.Native.Nat.{ℕ, ◌-◌, ◌*◌, ◌≤◌}
+use mathlib.Core.Path.{ap}
 use native.Mathlib.Omega.{arith}
-use borrow.Author.Rules.{rules}
 use Rattle.whole.specs.Numbers.{least_power}
 use Rattle.whole.specs.Ranges.{values}
 use Rattle.whole.specs.declared.Range.{Range}
-use Rattle.search.specs.Depth.{depth}
 use Rattle.search.proofs.Deep.{depth_none, depth_more}
-use Rattle.search.proofs.Judged.{started_fine}
 use Rattle.search.proofs.room.depth.Goals as goal
 
 pub loop-q-init : goal.loop-q-init
