@@ -15,7 +15,7 @@
  *   ularimpong_translate                      68 KiB; leave it 128 KiB
  *   ularimpong_answer                         170 KiB; leave it 256 KiB
  *
- * Link target/staticlib/libbindings.a, which `rt staticlib bindings` writes. */
+ * Link target/staticlib/libbindings.a, which `tools/rust archive` writes. */
 #ifndef ULARIMPONG_H
 #define ULARIMPONG_H
 
