@@ -50,35 +50,32 @@ pub record Other (t : Token) : Type 0 where
   pub conditional : eqb (token_no t) 18 ≡ false
 
 -- a token that is no mark, and a mark that is none of `range`, `must`, `if`
-pub not_fixed : (t : Token) → OneOf (0 ∷ 1 ∷ 2 ∷ 4 ∷ []) (tag_of token.the_type t) → Other t
+pub not_fixed : (t : Token) → ((m : Mark) → t ≡ Fixed m → ⊥) → Other t
 not_fixed (Number n) h = record { range = refl; must = refl; conditional = refl }
 not_fixed (Negative n) h = record { range = refl; must = refl; conditional = refl }
 not_fixed (Name n) h = record { range = refl; must = refl; conditional = refl }
-not_fixed (Fixed m) h = absurd (miss (0 ∷ 1 ∷ 2 ∷ 4 ∷ []) 3 tt h)
+not_fixed (Fixed m) h = absurd (h m refl)
 not_fixed Bad h = record { range = refl; must = refl; conditional = refl }
 
-abbrev others : List ℕ
-others = 0 ∷ 1 ∷ 2 ∷ 3 ∷ 4 ∷ 5 ∷ 6 ∷ 7 ∷ 8 ∷ 9 ∷ 10 ∷ 11 ∷ 15 ∷ 16 ∷ 17 ∷ []
-
-pub other_mark : (m : Mark) → OneOf others (tag_of mark.the_type m) → Other (Fixed m)
-other_mark Open h = record { range = refl; must = refl; conditional = refl }
-other_mark Close h = record { range = refl; must = refl; conditional = refl }
-other_mark Plus h = record { range = refl; must = refl; conditional = refl }
-other_mark Minus h = record { range = refl; must = refl; conditional = refl }
-other_mark Times h = record { range = refl; must = refl; conditional = refl }
-other_mark Square h = record { range = refl; must = refl; conditional = refl }
-other_mark AtMost h = record { range = refl; must = refl; conditional = refl }
-other_mark Below h = record { range = refl; must = refl; conditional = refl }
-other_mark AtLeast h = record { range = refl; must = refl; conditional = refl }
-other_mark Above h = record { range = refl; must = refl; conditional = refl }
-other_mark Equal h = record { range = refl; must = refl; conditional = refl }
-other_mark Differ h = record { range = refl; must = refl; conditional = refl }
-other_mark Range h = absurd (miss others 12 tt h)
-other_mark Must h = absurd (miss others 13 tt h)
-other_mark If h = absurd (miss others 14 tt h)
-other_mark Then h = record { range = refl; must = refl; conditional = refl }
-other_mark And h = record { range = refl; must = refl; conditional = refl }
-other_mark Or h = record { range = refl; must = refl; conditional = refl }
+pub other_mark : (m : Mark) → (m ≡ Range → ⊥) → (m ≡ Must → ⊥) → (m ≡ If → ⊥) → Other (Fixed m)
+other_mark Open r m i = record { range = refl; must = refl; conditional = refl }
+other_mark Close r m i = record { range = refl; must = refl; conditional = refl }
+other_mark Plus r m i = record { range = refl; must = refl; conditional = refl }
+other_mark Minus r m i = record { range = refl; must = refl; conditional = refl }
+other_mark Times r m i = record { range = refl; must = refl; conditional = refl }
+other_mark Square r m i = record { range = refl; must = refl; conditional = refl }
+other_mark AtMost r m i = record { range = refl; must = refl; conditional = refl }
+other_mark Below r m i = record { range = refl; must = refl; conditional = refl }
+other_mark AtLeast r m i = record { range = refl; must = refl; conditional = refl }
+other_mark Above r m i = record { range = refl; must = refl; conditional = refl }
+other_mark Equal r m i = record { range = refl; must = refl; conditional = refl }
+other_mark Differ r m i = record { range = refl; must = refl; conditional = refl }
+other_mark Range r m i = absurd (r refl)
+other_mark Must r m i = absurd (m refl)
+other_mark If r m i = absurd (i refl)
+other_mark Then r m i = record { range = refl; must = refl; conditional = refl }
+other_mark And r m i = record { range = refl; must = refl; conditional = refl }
+other_mark Or r m i = record { range = refl; must = refl; conditional = refl }
 
 other_read : (ts : List Token) → Other (head_of ts) → read_line ts ≡ none
 unfolding read_line

@@ -13,7 +13,7 @@ use Rattle.meaning.specs.Draft.{Draft, quantities_in, rule}
 use Rattle.meaning.specs.Grounds.{Outcome, refused, read, one_line, read_lines}
 use Rattle.meaning.specs.declared.Refusal.{Refusal}
 use Rattle.meaning.proofs.Definitions.{sizes, opened}
-use Rattle.meaning.proofs.RuleClauses.{rule_size}
+use Rattle.meaning.proofs.Rules.{rule_size}
 
 -- ---- a line more
 module _ (top : ℕ) (s : Draft) where

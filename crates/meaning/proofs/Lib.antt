@@ -14,8 +14,10 @@ pub mod FlatLists
 pub mod Pieces
 -- what a tree and a rule make, and what that means
 pub mod TreeSizes
+pub mod Operations
 pub mod TreeValues
 pub mod RuleClauses
+pub mod Rules
 pub mod RuleAsks
 pub mod RuleSizes
 pub mod Extension

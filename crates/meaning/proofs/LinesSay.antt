@@ -25,7 +25,8 @@ use Rattle.meaning.proofs.NamePlaces.{placed}
 use Rattle.meaning.proofs.PlainValues.{Agrees}
 use Rattle.meaning.proofs.Pieces.{Within, Shows, SatisfiesFrom, join, fore, aft, shows_left, shows_right, shows_join}
 use Rattle.meaning.proofs.TreeValues.{gap_values, gap_values_length, Named}
-use Rattle.meaning.proofs.RuleClauses.{Answers, rule_size, rule_helped, rule_there, rule_back}
+use Rattle.meaning.proofs.RuleClauses.{Answers}
+use Rattle.meaning.proofs.Rules.{rule_size, rule_helped, rule_there, rule_back}
 use Rattle.meaning.proofs.Extension.{gap_values_same}
 
 pub record Kept (top : ℕ) (ls : List Line) (s : Draft) : Type 0 where

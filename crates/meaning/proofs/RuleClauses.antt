@@ -5,26 +5,23 @@ use mathlib.Core.List.{List, [], ◌∷◌}
 use mathlib.Core.Logic.{◌⊎◌, inl, inr, ⊎_elim}
 use Prim.Native.Nat.{ℕ, zero, suc, ◌+◌, ◌≤◌}
 use native.Mathlib.Omega.{arith}
-use lib.ListN.{length, length-append}
 use lib.IntN.{ℤ, ◌-ℤ◌}
 use lib.Signed.{lt_z, ◌<ℤ◌}
 use Rattle.whole.specs.Lists.{AllOf, OneOf}
-use Rattle.whole.specs.Ranges.{Point, In}
-use Rattle.whole.specs.declared.Range.{Range}
+use Rattle.whole.specs.Ranges.{Point}
 use Rattle.whole.proofs.Kit.{ints, minus}
-use Rattle.problem.specs.Problem.{Holds, True}
+use Rattle.problem.specs.Problem.{True}
 use Rattle.problem.specs.declared.Literal.{Literal}
 use Rattle.sheet.specs.Meaning.{Compares}
 use Rattle.sheet.specs.declared.Sign.{Sign}
 use Rattle.sheet.specs.declared.Sign.TheVariants.{AtMost, Below, AtLeast, Above, Equal, Differ}
 use Rattle.meaning.specs.Plain.{Asked}
-use Rattle.meaning.specs.Translation.{size_of, place_in, gap_of, gaps, Turn, first, second, literals_for, equal, equalities, clause_of, one_or_two, rule_of}
-use Rattle.meaning.proofs.Definitions.{sizes, opened}
-use Rattle.meaning.proofs.TreeSizes.{gaps_length}
-use Rattle.meaning.proofs.Elements.{all_join, each_join, one_left, one_right, one_split}
+use Rattle.meaning.specs.Translation.{size_of, place_in, gap_of, Turn, first, second, literals_for, equal, equalities, clause_of, one_or_two}
+use Rattle.meaning.proofs.Definitions.{opened}
+use Rattle.meaning.proofs.Elements.{one_left, one_right, one_split}
 use Rattle.meaning.proofs.PlainValues.{value}
-use Rattle.meaning.proofs.Pieces.{Within, Shows, SatisfiesFrom, join, fore, aft}
-use Rattle.meaning.proofs.TreeValues.{at_place, gap_values, Named, first_shows, rest_shows, gaps_there, gaps_back}
+use Rattle.meaning.proofs.Pieces.{Shows}
+use Rattle.meaning.proofs.TreeValues.{at_place, gap_values, first_shows, rest_shows}
 
 -- what is asked is so
 abbrev pub Answers : Point → Asked → Type 0
@@ -95,7 +92,7 @@ is_equal Differ = inl refl
 
 -- ---- the clauses of a rule, where p shows the differences from k on
 module _ (p : Point) where
-  clause_there : (t : Turn) (k : ℕ) (asked : List Asked) → Shows p k (gap_values p asked) → OneOf (Answers p) asked → OneOf (True p) (clause_of t k asked)
+  pub clause_there : (t : Turn) (k : ℕ) (asked : List Asked) → Shows p k (gap_values p asked) → OneOf (Answers p) asked → OneOf (True p) (clause_of t k asked)
   unfolding opened
   clause_there t k [] h i = elim i [ ]
   clause_there t k (a ∷ more) h (inl i) =
@@ -144,43 +141,12 @@ module _ (p : Point) where
       go (inr x) (inl y) f = mixed second first k a more l h y x
       go (inr x) (inr y) f = inr (f x y)
 
-  turns_back : (n k : ℕ) (asked : List Asked) → equalities asked ≡ n → n ≤ 1 → Shows p k (gap_values p asked) → AllOf (OneOf (True p)) (one_or_two n (clause_of first k asked) (clause_of second k asked)) → OneOf (Answers p) asked
+  pub turns_back : (n k : ℕ) (asked : List Asked) → equalities asked ≡ n → n ≤ 1 → Shows p k (gap_values p asked) → AllOf (OneOf (True p)) (one_or_two n (clause_of first k asked) (clause_of second k asked)) → OneOf (Answers p) asked
   unfolding opened
   turns_back zero k asked e l h i = clause_alone first k asked e h i.0
   turns_back (suc n) k asked e l h i = clause_both k asked (omega arith) h i.0 i.1.0
 
-  turns_there : (n : ℕ) (a b : List Literal) → OneOf (True p) a → OneOf (True p) b → AllOf (OneOf (True p)) (one_or_two n a b)
+  pub turns_there : (n : ℕ) (a b : List Literal) → OneOf (True p) a → OneOf (True p) b → AllOf (OneOf (True p)) (one_or_two n a b)
   unfolding opened
   turns_there zero a b h i = (h, tt)
   turns_there (suc n) a b h i = (h, (i, tt))
-
--- ---- one rule, whatever stands before it
-pub rule_size : (d : List Range) (k : ℕ) (asked : List Asked) → length (rule_of d k asked).ranges ≡ sizes asked
-unfolding rule_of
-rule_size d k asked = omega (arith, length-append (gaps d k asked).ranges [], gaps_length d k asked)
-
-module _ (d : List Range) (p : Point) where
-  -- its helpers, whether or not it is met
-  pub rule_helped : Within p 0 d → (k : ℕ) (asked : List Asked) → Named (length d) asked → Shows p k (gap_values p asked) → Within p k (rule_of d k asked).ranges × AllOf (Holds p) (rule_of d k asked).primitives
-  unfolding rule_of
-  rule_helped inside k asked u h =
-      let g = gaps_there d p inside k asked u h in (
-        each_join (λ q r. In r (p q)) (gaps d k asked).ranges [] k (k + length (gaps d k asked).ranges) refl g.ranges tt,
-        all_join (Holds p) (gaps d k asked).primitives [] g.primitives tt,
-      )
-
-  pub rule_there : Within p 0 d → (k : ℕ) (asked : List Asked) → Named (length d) asked → Shows p k (gap_values p asked) → OneOf (Answers p) asked → SatisfiesFrom k p (rule_of d k asked)
-  unfolding opened
-  rule_there inside k asked u h o =
-      join p k (k + length (gaps d k asked).ranges) (gaps d k asked) _ refl (gaps_there d p inside k asked u h)
-      (record {
-        ranges = tt;
-        primitives = tt;
-        clauses = turns_there p (equalities asked) _ _ (clause_there p first k asked h o) (clause_there p second k asked h o);
-      })
-
-  pub rule_back : (k : ℕ) (asked : List Asked) → equalities asked ≤ 1 → SatisfiesFrom k p (rule_of d k asked) → Shows p k (gap_values p asked) × OneOf (Answers p) asked
-  unfolding opened
-  rule_back k asked l i =
-      let h = gaps_back d p k asked (fore p k (gaps d k asked) _ i) in
-      (h, turns_back p (equalities asked) k asked refl l h (aft p k (k + length (gaps d k asked).ranges) (gaps d k asked) _ refl i).clauses)

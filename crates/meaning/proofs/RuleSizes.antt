@@ -12,7 +12,7 @@ use Rattle.meaning.specs.Lists.{literals_in}
 use Rattle.meaning.proofs.Definitions.{sizes}
 use Rattle.meaning.proofs.TreeSizes.{gaps_primitives, at_least_one, clause_length}
 use Rattle.meaning.proofs.FlatLists.{literals_in_append}
-use Rattle.meaning.proofs.RuleClauses.{rule_size}
+use Rattle.meaning.proofs.Rules.{rule_size}
 use Rattle.meaning.proofs.DefinitionSteps.{rule_primitives, rule_clauses}
 
 -- clauses and literals of a rule with m comparisons

@@ -9,26 +9,21 @@ use lib.IntN.{ℤ, pos, ◌*ℤ◌}
 use Rattle.whole.specs.Lists.{AllOf}
 use Rattle.whole.specs.Ranges.{Point, In, range, square_span}
 use Rattle.whole.specs.declared.Range.{Range}
-use Rattle.whole.proofs.Kit.{ints, plus, minus}
-use Rattle.whole.proofs.Spans.{sum_in, difference_in, product_in, square_in}
+use Rattle.whole.proofs.Kit.{ints}
+use Rattle.whole.proofs.Spans.{square_in}
 use Rattle.problem.specs.Problem.{Holds}
 use Rattle.problem.specs.declared.Primitive.{Primitive}
 use Rattle.problem.specs.declared.Primitive.TheVariants.{Square}
-use Rattle.meaning.specs.Plain.{Operation, sum, difference, product, Tree, constant, quantity, binary, square, Asked}
+use Rattle.meaning.specs.Plain.{Tree, constant, quantity, binary, square, Asked}
 use Rattle.meaning.specs.Translation.{◌⋈◌, span_for, range_of, size_of, place_in, equation, helper, piece_of, gap_of, gaps}
 use Rattle.meaning.proofs.Definitions.{sizes, opened}
 use Rattle.meaning.proofs.TreeSizes.{piece_length}
 use Rattle.meaning.proofs.Elements.{each_at}
 use Rattle.meaning.proofs.PlainValues.{result, value, Names}
+use Rattle.meaning.proofs.Operations.{operation_in, says, said}
 use Rattle.meaning.proofs.Pieces.{Within, Shows, SatisfiesFrom, join, fore, aft, shows_left, shows_right, shows_join}
 
 -- ---- the range of a tree holds its value
-operation_in : (o : Operation) (x y : Range) (u v : ℤ) → In x u → In y v → In (span_for o x y) (result o u v)
-unfolding span_for
-operation_in sum x y u v h k = sum_in x y u v h k
-operation_in difference x y u v h k = difference_in x y u v h k
-operation_in product x y u v h k = product_in x y u v h k
-
 module _ (d : List Range) (p : Point) (inside : Within p 0 d) where
   pub value_in : (t : Tree) → Names (length d) t → In (range_of d t) (value p t)
   unfolding opened
@@ -50,19 +45,6 @@ values_length p (constant n) = refl
 values_length p (quantity q) = refl
 values_length p (binary o a b) = simp length-append (omega (arith, values_length p a, values_length p b))
 values_length p (square a) = simp length-append (omega (arith, values_length p a))
-
--- ---- an operation's primitive says what it should
-says : (p : Point) (o : Operation) (h x y : ℕ) → Holds p (equation o h x y) → p h ≡ result o (p x) (p y)
-unfolding opened
-says p sum h x y e = e
-says p difference h x y e = omega (ints, plus (p h) (p y), minus (p x) (p y))
-says p product h x y e = e
-
-said : (p : Point) (o : Operation) (h x y : ℕ) → p h ≡ result o (p x) (p y) → Holds p (equation o h x y)
-unfolding opened
-said p sum h x y e = e
-said p difference h x y e = omega (ints, plus (p h) (p y), minus (p x) (p y))
-said p product h x y e = e
 
 -- where the values, and the ranges, of both operands end
 both_values : (p : Point) (k : ℕ) (a b : Tree) → k + length (values p a ++ values p b) ≡ k + (size_of a + size_of b)

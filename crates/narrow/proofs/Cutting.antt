@@ -3,17 +3,17 @@ use mathlib.Core.Path.{◌≡◌, refl, sym, ap, ap₂, subst, ◌∙◌}
 use mathlib.Core.Logic.{◌≢◌, ◌⊎◌, ⊎_elim}
 use mathlib.Core.List.{List, [], ◌∷◌, ◌++◌}
 use mathlib.Core.Bool.{Bool, true, false, cond}
-use Prim.Native.Nat.{ℕ, ◌+◌, ◌*◌, ◌<◌}
+use Prim.Native.Nat.{ℕ, ◌+◌, ◌*◌, ◌<◌, ◌^◌}
 use native.Mathlib.Omega.{arith}
 use borrow.Author.Tests.{eqb-true, eqb-false}
 use lib.Dec.{eqb}
-use lib.Signed.{lt_z, ◌≤ℤ◌, ◌<ℤ◌}
-use types.Run.{OneOf, miss}
-use denote.Enum.Declared.{tag_of}
+use lib.IntN.{ℤ}
+use lib.Signed.{lt_z, ◌≤ℤ◌, ◌<ℤ◌, mag}
 use Rattle.whole.specs.Numbers.{min_z, max_z}
 use Rattle.whole.specs.inner.Held.{held_span, Good}
 use Rattle.whole.specs.declared.Range.{Range}
-use Rattle.whole.proofs.Kit.{ints, nears, min_parts, max_parts, lt_or_le}
+use Rattle.whole.specs.Ranges.{range}
+use Rattle.whole.proofs.Kit.{ints, nears, min_parts, max_parts, lt_or_le, at, got, rn, call2}
 use Rattle.whole.proofs.Held.{Meeting, neither, alike, meeting}
 use Rattle.whole.proofs.Spans.{ends_is}
 use Rattle.problem.proofs.Tests.{by_bool}
@@ -22,7 +22,6 @@ use Rattle.narrow.specs.Cuts.{meet_of, put_at, Swept, empty, changed, unchanged,
 use Rattle.narrow.specs.inner.Done.{Has, Fine, Seen, Replaced, swept_as, Done}
 use Rattle.narrow.specs.declared.Status.{Status}
 use Rattle.narrow.specs.declared.Status.TheVariants.{Empty, Changed, Same}
-use Rattle.narrow.specs.contracts.Status.{the_type as status-type}
 use Rattle.narrow.proofs.Boxes.{put_long, low_or, high_or, put_low, put_high}
 use Rattle.narrow.proofs.Cuts.{Quiet}
 use Rattle.narrow.proofs.Steps.{steps_append, steps_empty}
@@ -83,11 +82,9 @@ put_fine b q r h g f = record {
 meet_good : (a s : Range) → Good a → max_z a.low s.low ≤ℤ min_z a.high s.high → Good (meet_of a s)
 meet_good a s g h = omega (nears, max_parts a.low s.low, min_parts a.high s.high)
 
--- ---- a status that is not Empty
-pub not_empty : (p : Status) → OneOf (1 ∷ 2 ∷ []) (tag_of status-type p) → p ≡ Empty → ⊥
-not_empty Empty h e = absurd (miss (1 ∷ 2 ∷ []) 0 tt h)
-not_empty Changed h e = let z : ◌≡◌ {A = ℕ} 0 1 = cc in omega arith
-not_empty Same h e = let z : ◌≡◌ {A = ℕ} 0 1 = cc in omega arith
+-- ---- the two ends that the code makes of a range that was read and another
+pub new_met : {old : Range} (s : Range) → Good old → mag s.low < 2 ^ 63 → mag s.high < 2 ^ 63 → {l h : ℤ} → mag l < 2 ^ 63 → l ≡ max_z (at old.low) (at s.low) → mag h < 2 ^ 63 → h ≡ min_z (at old.high) (at s.high) → range (at l) (at h) ≡ meet_of old s
+new_met {old} s g sl sh {l} {h} ml el mh eh = ends_is (call2 max_z l ml el (rn old.low g.low) (got s.low sl)) (call2 min_z h mh eh (rn old.high g.high) (got s.high sh))
 
 -- ---- what `cut` answers
 module _ (q : ℕ) (s : Range) (p : Status) (b : Box) (f : Fine b) (h : Has b q) (old new : Range) (seen : Seen b q old) (met : new ≡ meet_of old s) where

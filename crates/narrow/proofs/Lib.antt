@@ -1,3 +1,4 @@
+pub mod Beside
 pub mod Boxes
 pub mod Clauses
 pub mod Constraints

@@ -1,9 +1,7 @@
 -- `narrow::sweep_primitives` meets its contract. The invariant: the steps of the primitives from place i on, from the box in hand, come to what all steps come to. The measure is the primitives left.
-use Prim.Native.Nat.{◌+◌, ◌-◌, ◌≤◌}
+use Prim.Native.Nat.{◌-◌, ◌≤◌}
 use Rattle.narrow.specs.declared.Status.TheVariants.{Same}
-use Rattle.narrow.proofs.Sweeping.{Going, going_start, going_on, going_end, going_empty, primitives_left, primitives_on, primitives_none, primitive_readable, primitive_sited}
-use native.Mathlib.Omega.{arith}
-use borrow.Author.Rules.{rules}
+use Rattle.narrow.proofs.Sweeping.{Going, primitives_left}
 use Rattle.narrow.proofs.sweep_primitives.Given as goal
 
 abbrev pub invariant-loop-i : goal.invariant-loop-i

@@ -30,4 +30,4 @@ pub returns : goal.returns
 returns c =
     let s = c in
     append_two s.args.done s.args.making s.args.count s.args.equals s.args.lengths.now s.args.literals.now s.args.seconds.now s.requires
-    c.copy.new.1.0 c.copy.ensures c.if-equals-eq0.false
+    c.copy.new.to c.copy.ensures c.if-equals-eq0.false

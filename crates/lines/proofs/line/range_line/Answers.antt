@@ -11,13 +11,13 @@ use Rattle.lines.proofs.line.range_line.Goals as goal
 pub declare-requires : goal.declare-requires
 declare-requires c =
     let s = c in
-    (record { low = omega ints; high = omega ints }, (near_at (top_told s.args.version c.top_of.ensures), s.requires))
+    record { near_1 = record { low = omega ints; high = omega ints }; near_2 = near_at (top_told s.args.version c.top_of.ensures); declares_in = s.requires }
 
 pub declare-requires-in-Ranged : goal.declare-requires-in-Ranged
 declare-requires-in-Ranged c =
     let s = c in
     let n = range_near (tokens_from s.args.line.now s.args.at) _ _ _ (proper_from s.args.line.now s.args.at) (sym c.declaration-said.ensures ∙ c.in-Ranged.is) in
-    (near_at n.0, (near_at n.1, s.requires))
+    record { near_1 = near_at n.0; near_2 = near_at n.1; declares_in = s.requires }
 
 pub returns-in-Plain : goal.returns-in-Plain
 returns-in-Plain c ps ns ls =

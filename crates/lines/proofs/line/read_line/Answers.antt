@@ -16,7 +16,7 @@ returns-in_default c =
     let n = c.next-first in
     line_other s.args.version s.args.line.now s.args.done s.args.ranges.now s.args.primitives.now s.args.lengths.now s.args.literals.now s.args.keys.now _ _ _ _ _
     (sym c.deep.ensures ∙ c.if-deep.false) n.result.token n.result.next (n.ensures.0, n.ensures.1)
-    (not_fixed n.result.token c.in_default-own.keys2)
+    (not_fixed n.result.token c.in_default.not-Fixed)
 
 pub returns-in-Range : goal.returns-in-Range
 returns-in-Range c =
@@ -48,4 +48,4 @@ returns-in_default-mark c =
     let n = c.next-first in
     line_other s.args.version s.args.line.now s.args.done s.args.ranges.now s.args.primitives.now s.args.lengths.now s.args.literals.now s.args.keys.now _ _ _ _ _
     (sym c.deep.ensures ∙ c.if-deep.false) n.result.token n.result.next (n.ensures.0, n.ensures.1)
-    (rw c.in-Fixed.is (other_mark c.in-Fixed.mark c.in_default-mark.keys4))
+    (rw c.in-Fixed.is (other_mark c.in-Fixed.mark c.in_default-mark.not-Range c.in_default-mark.not-Must c.in_default-mark.not-If))

@@ -46,9 +46,9 @@ append-more-requires c =
     let s = c in
     let n = 8 * length (tokens_from s.args.line.now s.args.at) + 8 in
     let l : n ≤ n = le_refl n in
-    rule_room 1 s.args.conditional (tokens_from s.args.line.now s.args.at) s.args.done s.args.ranges.now s.args.primitives.now s.args.lengths.now s.args.literals.now s.args.keys.now _ s.requires.full refl c.in-Done.making c.in-Done.count c.in-Done.equals _ _ _ _ (rw c.in-Done.is at c.read_part-ruled.ensures) n l c.if-making.false c.if-equals-gt1.false c.if-making-2.false c.if-making-gt-MOST.false c.read_part-ruled.auto.1.1.1.1.1.1.1.0 s.requires.draft s.requires.stored s.requires.proper c.read_part-ruled.auto.1.1.1.1.1.1.1.1.0
+    rule_room 1 s.args.conditional (tokens_from s.args.line.now s.args.at) s.args.done s.args.ranges.now s.args.primitives.now s.args.lengths.now s.args.literals.now s.args.keys.now _ s.requires.full refl c.in-Done.making c.in-Done.count c.in-Done.equals _ _ _ _ (rw c.in-Done.is at c.read_part-ruled.ensures) n l c.if-making.false c.if-equals-gt1.false c.if-making-2.false c.if-making-gt-MOST.false c.read_part-ruled.auto.firsts s.requires.draft s.requires.stored s.requires.proper c.read_part-ruled.auto.seconds
 
 pub returns : goal.returns
 returns c = λ version n l.
     let s = c in
-    rule_next version s.args.conditional (tokens_from s.args.line.now s.args.at) s.args.done s.args.ranges.now s.args.primitives.now s.args.lengths.now s.args.literals.now s.args.keys.now _ s.requires.full refl c.in-Done.making c.in-Done.count c.in-Done.equals _ _ _ _ (rw c.in-Done.is at c.read_part-ruled.ensures) n l c.if-making.false c.if-equals-gt1.false c.if-making-2.false c.if-making-gt-MOST.false c.read_part-ruled.auto.1.1.1.1.1.1.1.0 _ _ c.append-more.result c.append-more.ensures
+    rule_next version s.args.conditional (tokens_from s.args.line.now s.args.at) s.args.done s.args.ranges.now s.args.primitives.now s.args.lengths.now s.args.literals.now s.args.keys.now _ s.requires.full refl c.in-Done.making c.in-Done.count c.in-Done.equals _ _ _ _ (rw c.in-Done.is at c.read_part-ruled.ensures) n l c.if-making.false c.if-equals-gt1.false c.if-making-2.false c.if-making-gt-MOST.false c.read_part-ruled.auto.firsts _ _ c.append-more.result c.append-more.ensures

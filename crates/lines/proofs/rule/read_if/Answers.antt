@@ -8,41 +8,28 @@ use Rattle.lines.proofs.RuleCode.{if_no, if_other, if_half, if_is}
 use Rattle.lines.proofs.FirstTokens.{head_kind}
 use Rattle.lines.proofs.rule.read_if.Goals as goal
 
--- what is listed at the start
-abbrev begun : goal.Start → Listing
-begun s = listing_of (record { making = s.args.making; count = 0; equals = 0 }) s.args.ranges.now s.args.primitives.now s.args.firsts.now s.args.seconds.now
-
 pub returns-in_default : goal.returns-in_default
 returns-in_default c =
-    let s = c.before.before.before.before.before.before.before.before.before.before.before.before.before in
-    if_no s.args.keys.now s.args.line.now s.args.at (begun s) _ _ _ _ (rw c.in_default.is at c.comparisons.ensures)
+    let s = c in
+    if_no s.args.keys.now s.args.line.now s.args.at (listing_of (record { making = c.args.making; count = 0; equals = 0 }) c.args.ranges.now c.args.primitives.now c.args.firsts.now c.args.seconds.now) _ _ _ _ (rw c.in_default.is at c.comparisons.ensures)
 
 pub returns-then-kind-ne-THEN : goal.returns-then-kind-ne-THEN
 returns-then-kind-ne-THEN c =
-    let s = c.before.before.before.before.before.before.before.before.before.before.before.before.before.before.before.before.before in
+    let s = c in
     let i = c.in-At.i in
     let n = head_kind (tokens_from s.args.line.now i) _ _ c.next-s.ensures.0 c.kind.ensures in
-    if_other s.args.keys.now s.args.line.now s.args.at (begun s) i _ _ _ _ _ (rw c.in-At.is at c.comparisons.ensures) _ _ _ _ (λ z. c.if-kind-ne-THEN.true (n ∙ z))
+    if_other s.args.keys.now s.args.line.now s.args.at (listing_of (record { making = c.args.making; count = 0; equals = 0 }) c.args.ranges.now c.args.primitives.now c.args.firsts.now c.args.seconds.now) i _ _ _ _ _ (rw c.in-At.is at c.comparisons.ensures) _ _ _ _ (λ z. c.if-kind-ne-THEN.true (n ∙ z))
 
 pub returns-in_default-comparisons : goal.returns-in_default-comparisons
 returns-in_default-comparisons c =
-    let s = c.before.before.before.before.before.before.before.before.before.before.before.before.before.before.before.before.before.before.before.before.before.before.before.before.before.before.before.before in
+    let s = c in
     let i = c.in-At.i in
     let n = head_kind (tokens_from s.args.line.now i) _ _ c.next-s.ensures.0 c.kind.ensures in
-    if_half s.args.keys.now s.args.line.now s.args.at (begun s) i _ _ _ _ _ (rw c.in-At.is at c.comparisons.ensures) _ (sym n ∙ c.if-kind-ne-THEN.false) c.next-s.ensures.1 _ _ _ _ (rw c.in_default-comparisons.is at c.comparisons-2.ensures)
-
-pub shape_of-ranges : goal.shape_of-ranges
-shape_of-ranges c = c.ranges-1.given ∙ c.ranges.given
-
-pub shape_of-primitives : goal.shape_of-primitives
-shape_of-primitives c = c.primitives-2-1.given ∙ c.primitives-1.given
-
-pub shape_of-firsts : goal.shape_of-firsts
-shape_of-firsts c = c.firsts-2-1.given ∙ c.firsts-1.given
+    if_half s.args.keys.now s.args.line.now s.args.at (listing_of (record { making = c.args.making; count = 0; equals = 0 }) c.args.ranges.now c.args.primitives.now c.args.firsts.now c.args.seconds.now) i _ _ _ _ _ (rw c.in-At.is at c.comparisons.ensures) _ (sym n ∙ c.if-kind-ne-THEN.false) c.next-s.ensures.1 _ _ _ _ (rw c.in_default-comparisons.is at c.comparisons-2.ensures)
 
 pub returns : goal.returns
 returns c =
-    let s = c.before.before.before.before.before.before.before.before.before.before.before.before.before.before.before.before.before.before.before.before.before.before.before.before.before.before.before.before.before.before in
+    let s = c in
     let i = c.in-At.i in
     let n = head_kind (tokens_from s.args.line.now i) _ _ c.next-s.ensures.0 c.kind.ensures in
-    if_is s.args.keys.now s.args.line.now s.args.at (begun s) i _ _ _ _ _ (rw c.in-At.is at c.comparisons.ensures) _ (sym n ∙ c.if-kind-ne-THEN.false) c.next-s.ensures.1 _ _ _ _ _ _ _ (rw c.in-At-comparisons.is at c.comparisons-2.ensures) c.ended.ensures
+    if_is s.args.keys.now s.args.line.now s.args.at (listing_of (record { making = c.args.making; count = 0; equals = 0 }) c.args.ranges.now c.args.primitives.now c.args.firsts.now c.args.seconds.now) i _ _ _ _ _ (rw c.in-At.is at c.comparisons.ensures) _ (sym n ∙ c.if-kind-ne-THEN.false) c.next-s.ensures.1 _ _ _ _ _ _ _ (rw c.in-At-comparisons.is at c.comparisons-2.ensures) c.ended.ensures

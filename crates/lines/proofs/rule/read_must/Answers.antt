@@ -5,16 +5,12 @@ use Rattle.lines.specs.inner.Comparisons.{listing_of}
 use Rattle.lines.proofs.RuleCode.{must_no, must_is}
 use Rattle.lines.proofs.rule.read_must.Goals as goal
 
--- what is listed at the start
-abbrev begun : goal.Start → Listing
-begun s = listing_of (record { making = s.args.making; count = 0; equals = 0 }) s.args.ranges.now s.args.primitives.now s.args.firsts.now s.args.seconds.now
-
 pub returns-in_default : goal.returns-in_default
 returns-in_default c =
-    let s = c.before.before.before.before.before.before.before.before.before.before.before.before.before in
-    must_no s.args.keys.now s.args.line.now s.args.at (begun s) _ _ _ _ (rw c.in_default.is at c.comparisons.ensures)
+    let s = c in
+    must_no s.args.keys.now s.args.line.now s.args.at (listing_of (record { making = c.args.making; count = 0; equals = 0 }) c.args.ranges.now c.args.primitives.now c.args.firsts.now c.args.seconds.now) _ _ _ _ (rw c.in_default.is at c.comparisons.ensures)
 
 pub returns : goal.returns
 returns c =
-    let s = c.before.before.before.before.before.before.before.before.before.before.before.before.before.before.before in
-    must_is s.args.keys.now s.args.line.now s.args.at (begun s) _ _ _ _ _ _ _ (rw c.in-At.is at c.comparisons.ensures) c.ended.ensures
+    let s = c in
+    must_is s.args.keys.now s.args.line.now s.args.at (listing_of (record { making = c.args.making; count = 0; equals = 0 }) c.args.ranges.now c.args.primitives.now c.args.firsts.now c.args.seconds.now) _ _ _ _ _ _ _ (rw c.in-At.is at c.comparisons.ensures) c.ended.ensures

@@ -18,4 +18,4 @@ pub returns-in-14 : goal.returns-in-14
 returns-in-14 c = rw c.in-14.is
 
 pub returns-in_default : goal.returns-in_default
-returns-in_default c = rw (ne_eqb _ 10 c.in_default-own.rest.0.0.0.0.1, ne_eqb _ 11 c.in_default-own.rest.0.0.0.1, ne_eqb _ 12 c.in_default-own.rest.0.0.1, ne_eqb _ 13 c.in_default-own.rest.0.1, ne_eqb _ 14 c.in_default-own.rest.1)
+returns-in_default c = rw (ne_eqb _ 10 c.in_default.in_default-own.rest.0.0.0.0.1, ne_eqb _ 11 c.in_default.in_default-own.rest.0.0.0.1, ne_eqb _ 12 c.in_default.in_default-own.rest.0.0.1, ne_eqb _ 13 c.in_default.in_default-own.rest.0.1, ne_eqb _ 14 c.in_default.in_default-own.rest.1)

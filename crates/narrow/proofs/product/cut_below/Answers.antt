@@ -7,7 +7,6 @@ use Rattle.whole.specs.declared.Range.{Range}
 use Rattle.whole.specs.Ranges.{holds_zero}
 use Rattle.whole.proofs.Kit.{ints, rn}
 use Rattle.whole.proofs.Spans.{clear}
-use borrow.Author.Rules.{rules}
 use Rattle.problem.specs.Problem.{range_at}
 use Rattle.problem.proofs.Tests.{by_bool}
 use Rattle.narrow.specs.Narrowing.{quotient_span, quotient_step}
@@ -19,7 +18,7 @@ pub returns-then-by-ge0 : goal.returns-then-by-ge0
 returns-then-by-ge0 c =
     let s = c in
     let a = s.args in
-    let b = a.b-1.now in
+    let b = a.b.now in
     let y = range_at b a.y in
     let m = s.requires.fact_5 in
     let seen = c.range_at-by.ensures in
@@ -31,18 +30,11 @@ returns-then-by-ge0 c =
     (λ e. let k : pos 0 <ℤ y.low = ⊎_elim (λ k. k) (λ k. absurd (omega ints)) (clear y e) in
     done_quiet (quotient_step a.x a.z a.y) a.prior b s.requires.fact_1 s.requires.fact_2 (quotient_to a.x (range_at b a.z) y e) (m.low refl k) (m.high refl k))
 
-pub quotient_below-s-requires : goal.quotient_below-s-requires
-quotient_below-s-requires c =
-    let by = c.range_at-by in
-    let r = rn by.result.high by.ensures.good.high in
-    let t = c.if-by-ge0.false in
-    (c.range_at.ensures.good, (by.ensures.good, omega ints))
-
 pub returns : goal.returns
 returns c =
     let s = c in
     let a = s.args in
-    let b = a.b-1.now in
+    let b = a.b.now in
     let by = c.range_at-by in
     let r = rn by.result.high by.ensures.good.high in
     let t = c.if-by-ge0.false in

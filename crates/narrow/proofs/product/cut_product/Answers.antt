@@ -3,8 +3,6 @@ use mathlib.Core.Path.{refl, ap₂, ◌∙◌}
 use Rattle.whole.specs.declared.Range.{Range}
 use Rattle.whole.specs.inner.Held.{held_span}
 use Rattle.whole.specs.Ranges.{product_span}
-use Rattle.whole.proofs.Kit.{ints, rn}
-use borrow.Author.Rules.{rules}
 use Rattle.narrow.specs.Narrowing.{product_step}
 use Rattle.narrow.proofs.Cutting.{done_held}
 use Rattle.narrow.proofs.product.cut_product.Goals as goal
@@ -14,16 +12,6 @@ returns-then-p-lt0 c =
     let s = c in
     done_held (product_step s.args.z s.args.x s.args.y) refl c.cut.ensures (s.requires.fact_1.good s.args.z s.requires.fact_2)
     (c.product-s.ensures ∙ ap₂ (λ (x y : Range). held_span (product_span x y)) c.range_at-p.ensures.is c.range_at-q.ensures.is)
-
-pub product_above-s-requires : goal.product_above-s-requires
-product_above-s-requires c =
-    let p = c.range_at-p in
-    let q = c.range_at-q in
-    let i = rn p.result.low p.ensures.good.low in
-    let j = rn q.result.low q.ensures.good.low in
-    let t = c.then-p-lt0.false in
-    let u = c.if-q-lt0.false in
-    (p.ensures.good, (q.ensures.good, (omega ints, omega ints)))
 
 pub returns : goal.returns
 returns c =

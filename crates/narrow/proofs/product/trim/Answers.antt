@@ -1,6 +1,5 @@
 -- Low below 0: the 0 is the high end. Else it is the low end.
 use mathlib.Core.Path.{refl}
-use borrow.Author.Rules.{rules}
 use Rattle.whole.proofs.Kit.{ints, rn}
 use Rattle.whole.proofs.Spans.{ends_is}
 use Rattle.narrow.proofs.Trimmed.{trim_high_done, trim_low_done}

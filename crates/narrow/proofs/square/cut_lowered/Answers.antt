@@ -4,18 +4,9 @@ use lib.IntN.{neg_ℤ}
 use Rattle.whole.proofs.Quotients.{turn}
 use Rattle.whole.specs.Numbers.{root_up}
 use Rattle.whole.proofs.Spans.{ends_is}
-use Rattle.narrow.proofs.Rooted.{square_least, lower_none, lower_quiet, lower_done}
+use Rattle.narrow.proofs.Rooted.{square_least, lower_quiet, lower_done}
 use Rattle.whole.proofs.Kit.{ints, rn}
-use borrow.Author.Rules.{rules}
 use Rattle.narrow.proofs.square.cut_lowered.Goals as goal
-
-pub returns-then-old-gt0 : goal.returns-then-old-gt0
-returns-then-old-gt0 c =
-    let s = c in
-    let a = s.args in
-    let x = c.range_at-old in
-    let r = rn x.result.high x.ensures.good.high in
-    lower_none a.x a.z a.prior a.b-1.now s.requires.fact_1 s.requires.fact_2 x.ensures (omega ints)
 
 pub returns-then-least-times : goal.returns-then-least-times
 returns-then-least-times c =
@@ -27,11 +18,8 @@ returns-then-least-times c =
     let t = c.times in
     let r = rn x.result.high x.ensures.good.high in
     let i = c.if-old-gt0.false in
-    lower_quiet a.x a.z a.prior a.b-1.now s.requires.fact_1 s.requires.fact_2 x.ensures z.ensures (omega ints)
+    lower_quiet a.x a.z a.prior a.b.now s.requires.fact_1 s.requires.fact_2 x.ensures z.ensures (omega ints)
     (square_least x.result.high z.result.low t.result x.ensures.good.high z.ensures.good.low t.type_inv t.ensures c.if-least-times.true)
-
-pub overflow_sub-new : goal.overflow_sub-new
-overflow_sub-new c = (turn c.up.result c.up.ensures.near).fits
 
 pub returns : goal.returns
 returns c =
@@ -44,6 +32,6 @@ returns c =
     let up = c.up in
     let r = rn x.result.high x.ensures.good.high in
     let i = c.if-old-gt0.false in
-    lower_done a.x a.z a.prior a.b-1.now s.requires.fact_1 s.requires.fact_2 x.ensures z.ensures c.replace.ensures s.requires.fact_4 (omega ints)
+    lower_done a.x a.z a.prior a.b.now s.requires.fact_1 s.requires.fact_2 x.ensures z.ensures c.replace.ensures s.requires.fact_4 (omega ints)
     (square_least x.result.high z.result.low t.result x.ensures.good.high z.ensures.good.low t.type_inv t.ensures c.if-least-times.false)
     (ends_is (rn x.result.low x.ensures.good.low) ((turn up.result up.ensures.near).is ∙ ap neg_ℤ (up.ensures.is ∙ ap root_up (rn z.result.low z.ensures.good.low))))

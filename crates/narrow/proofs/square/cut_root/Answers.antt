@@ -1,9 +1,8 @@
 -- `narrow::square::cut_root` meets its contract: where the squares of both ends are at most z's high end, x lies between the roots; else an end moves.
-use mathlib.Core.Logic.{inl, inr, ⊎_elim}
-use Rattle.whole.proofs.Quotients.{turn}
+use mathlib.Core.Logic.{inl, inr}
 use Rattle.narrow.proofs.Rooted.{square_most, root_new, root_quiet, root_done}
-use borrow.Author.Rules.{rules}
 use Rattle.narrow.proofs.square.cut_root.Goals as goal
+use Rattle.narrow.proofs.square.cut_root.Goals.{then-times-most+else-times-most-2, else-times-most}
 
 pub returns-then-times-most-2 : goal.returns-then-times-most-2
 returns-then-times-most-2 c =
@@ -13,26 +12,18 @@ returns-then-times-most-2 c =
     let z = c.range_at-most in
     let t = c.times in
     let u = c.times-then-times-most in
-    root_quiet a.x a.z a.prior a.b-1.now s.requires.fact_1 s.requires.fact_2 x.ensures z.ensures
+    root_quiet a.x a.z a.prior a.b.now s.requires.fact_1 s.requires.fact_2 x.ensures z.ensures
     (square_most x.result.low z.result.high t.result x.ensures.good.low z.ensures.good.high t.type_inv t.ensures c.if-times-most.true)
     (square_most x.result.high z.result.high u.result x.ensures.good.high z.ensures.good.high u.type_inv u.ensures c.if-times-most-2.true)
 
-pub overflow_sub-r : goal.overflow_sub-r
-overflow_sub-r c = (turn c.down-r.result c.down-r.ensures.near).fits
-
 pub returns : goal.returns
 returns c =
-    let k = c in
-    let s = k in
-    let a = s.args in
-    let x = k.range_at-old in
-    let z = k.range_at-most in
-    let t = k.times in
+    let a = c.args in
+    let x = c.range_at-old in
+    let z = c.range_at-most in
+    let t = c.times in
     let l = c.larger in
     let h = c.smaller in
-    root_done a.x a.z a.prior a.b-1.now s.requires.fact_1 s.requires.fact_2 x.ensures z.ensures c.replace.ensures s.requires.fact_4 s.requires.fact_5
-    (⊎_elim
-    (λ w. inr (square_most x.result.high z.result.high w.3.result x.ensures.good.high z.ensures.good.high w.3.type_inv w.3.ensures w.4.false))
-    (λ w. inl (square_most x.result.low z.result.high t.result x.ensures.good.low z.ensures.good.high t.type_inv t.ensures w.false))
-    c.if-times-most.branch)
+    root_done a.x a.z a.prior a.b.now c.requires.fact_1 c.requires.fact_2 x.ensures z.ensures c.replace.ensures c.requires.fact_4 c.requires.fact_5
+    (elim c.if-times-most.branch [ then-times-most+else-times-most-2 w ↦ let u = w.times-then-times-most in inr (square_most x.result.high z.result.high u.result x.ensures.good.high z.ensures.good.high u.type_inv u.ensures w.if-times-most-2.false) | else-times-most w ↦ inl (square_most x.result.low z.result.high t.result x.ensures.good.low z.ensures.good.high t.type_inv t.ensures w.if-times-most.false) ])
     (root_new x.ensures.good z.ensures.good c.down-r.ensures l.type_inv l.ensures h.type_inv h.ensures)

@@ -5,7 +5,6 @@ use Rattle.whole.specs.Ranges.{square_span}
 use Rattle.narrow.specs.Narrowing.{square_step}
 use mathlib.Core.Path.{refl, ap, ◌∙◌}
 use Rattle.narrow.proofs.Cutting.{done_held}
-use borrow.Author.Rules.{rules}
 use Rattle.narrow.proofs.square.cut_square.Goals as goal
 
 pub returns : goal.returns

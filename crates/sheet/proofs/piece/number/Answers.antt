@@ -37,6 +37,6 @@ returns c =
     c.digits.ensures ∙ ap (λ (n : ℕ). digits_of n (drop 1 w)) c.wide.ensures
     ∙ sym
     (elim c.else-b-eq48.branch [
-      else-b-eq48-via-then-b-eq48+else-digit_at u ↦ number_zero w d (sym u.digit_at-then-b-eq48.ensures ∙ u.if-digit_at.false)
-    | else-b-eq48-via-else-b-eq48 u ↦ number_more w d u.if-b-eq48.false
+      | else-b-eq48-via-then-b-eq48+else-digit_at u ↦ number_zero w d (sym u.digit_at-then-b-eq48.ensures ∙ u.if-digit_at.false)
+      | else-b-eq48-via-else-b-eq48 u ↦ number_more w d u.if-b-eq48.false
     ])
