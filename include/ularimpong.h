@@ -9,7 +9,7 @@
  * refusals of sheets mean, docs/PROBLEMS.md those of problems.
  *
  * A call keeps nothing between calls and uses no heap, but stack, which no proof
- * bounds. Measured, and then rounded up:
+ * bounds. Measured with the older kit rattle-kit-5b, and then rounded up:
  *
  *   ularimpong_solve, ularimpong_line_span    below 2 KiB; leave it 32 KiB
  *   ularimpong_translate                      68 KiB; leave it 128 KiB
