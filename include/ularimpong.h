@@ -9,13 +9,13 @@
  * refusals of sheets mean, docs/PROBLEMS.md those of problems.
  *
  * A call keeps nothing between calls and uses no heap, but stack, which no proof
- * bounds. Measured, and then rounded up:
+ * bounds. Measured with the older kit rattle-kit-5b, and then rounded up:
  *
  *   ularimpong_solve, ularimpong_line_span    below 2 KiB; leave it 32 KiB
  *   ularimpong_translate                      68 KiB; leave it 128 KiB
  *   ularimpong_answer                         170 KiB; leave it 256 KiB
  *
- * Link target/staticlib/libbindings.a, which `rt staticlib bindings` writes. */
+ * Link target/staticlib/libbindings.a, which `tools/rust archive` writes. */
 #ifndef ULARIMPONG_H
 #define ULARIMPONG_H
 

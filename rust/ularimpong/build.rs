@@ -5,7 +5,7 @@ use std::process::exit;
 
 const MISSING: &str = "
 The proved library's archive target/staticlib/libbindings.a is not there.
-In the repository's root, `rt staticlib bindings` proves the library and writes it;
+In the repository's root, `tools/rust archive` proves the library and writes it;
 `tools/rust` does that and builds all of rust/.
 Without it, `cargo build -p paper -p brute` builds what needs no archive.
 ";

@@ -1,4 +1,5 @@
-// The calls for C: each says in numbers what the call of the same name answers, and asks nothing of its caller.
+// The calls for C: each says in numbers what the call of the same name answers, and asks nothing of its caller. The static library `bindings_c`
+// exports them: a library exports nothing itself.
 #![tactic(auto)]
 
 ghost use Rattle.std.specs.Prelude.{◌≡◌};

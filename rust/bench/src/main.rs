@@ -194,7 +194,7 @@ fn programs() {
     println!("| program, {TYPICAL} | processor time, ms | wall clock, ms |");
     println!("|---|---:|---:|");
     for (name, path) in [
-        ("desk (proved)", "../../target/bin/desk"),
+        ("desk (proved)", "../../crates/desk/out/desk"),
         ("rul (proved library)", "../target/release/rul"),
         ("rulpaper", "../target/release/rulpaper"),
     ] {
