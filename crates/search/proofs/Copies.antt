@@ -30,12 +30,6 @@ module _ (d : List ℤ) (w : ℕ) (long : length d ≡ w + w) where
       ∙ get_or-append (take w d) (take i d) (pos 0) i (omega arith)
       ∙ get_or-take w d i (pos 0) h
 
-  pub copy_done : (l : List ℤ) (i : ℕ) → l ≡ paste d w d i → i ≤ w → w ≤ i → l ≡ take w d ++ take w d
-  copy_done l i e h k =
-      let z : i ≡ w = omega arith in
-      e ∙ ap (λ (j : ℕ). paste d w d j) z
-      ∙ ap (λ (r : List ℤ). take w d ++ take w d ++ r) (drop_of_length-le d {i = w + w} (omega arith)) ∙ append-nil (take w d ++ take w d)
-
 -- ---- the low ends
 pub lows_turn : (b : Box) (d l : List ℤ) (q : ℕ) (v : ℤ) → length b ≡ 2 * length d → l ≡ paste d 0 (lows b) q → q < length d → v ≡ low_at b q → set l q v ≡ paste d 0 (lows b) (q + 1)
 lows_turn b d l q v long e h f =
@@ -50,9 +44,3 @@ fill_suc (suc i) (x ∷ d) h = ap (λ (t : List ℤ). pos 0 ∷ t) (fill_suc i d
 
 pub fill_turn : (d l : List ℤ) (i : ℕ) → l ≡ replicate i (pos 0) ++ drop i d → i < length d → set l i (pos 0) ≡ replicate (i + 1) (pos 0) ++ drop (i + 1) d
 fill_turn d l i e h = rw (e, add-one i) (fill_suc i d h)
-
-pub fill_done : (d l : List ℤ) (i : ℕ) → l ≡ replicate i (pos 0) ++ drop i d → i ≤ length d → length d ≤ i → l ≡ replicate (length d) (pos 0)
-fill_done d l i e h k =
-    let z : i ≡ length d = omega arith in
-    e ∙ ap (λ (r : List ℤ). replicate i (pos 0) ++ r) (drop_of_length-le d {i = i} k) ∙ append-nil (replicate i (pos 0))
-    ∙ ap (λ (j : ℕ). replicate j (pos 0)) z

@@ -2,7 +2,6 @@
 use mathlib.Core.Path.{◌≡◌, refl}
 use Prim.Native.Nat.{ℕ, zero, suc, ◌+◌, ◌*◌, ◌≤◌, ◌<◌}
 use native.Mathlib.Decide.{ℕ_discrete}
-use native.Mathlib.Nat.{mul-le-mul}
 use native.Mathlib.Numerals.{add-one}
 use native.Mathlib.Omega.{arith}
 use lib.IntN.{ℤ, pos, ◌+ℤ◌, ◌-ℤ◌}
@@ -33,13 +32,6 @@ depth_none b = refl
 pub depth_more : (b : Box) (q : ℕ) → depth (q + 1) b ≡ depth q b + least_power (values (range_at b q))
 unfolding depth
 depth_more b q = rw (add-one q)
-
--- 2n(D+1) is small
-pub room_small : (n d : ℕ) → n ≤ 128 → d ≤ 41 * n → 2 * n * (d + 1) ≤ 256 * 5249
-room_small n d h g =
-    let a : 2 * n ≤ 256 = omega arith in
-    let b : d + 1 ≤ 5249 = omega arith in
-    mul-le-mul a b
 
 -- ---- it never grows, and falls by a split
 module _ {n : ℕ} {a b : Box} (f : Part n a b) where

@@ -3,7 +3,7 @@
 use mathlib.Core.Path.{◌≡◌, refl, sym, ap, ◌∙◌, subst}
 use mathlib.Core.List.{List, [], ◌∷◌, ◌++◌}
 use Prim.Native.Nat.{ℕ, suc, ◌+◌, ◌-◌, ◌*◌, ◌≤◌, ◌<◌, suc-le-suc}
-use native.Mathlib.Nat.{suc-mul, zero-mul, mul-le-mul_right, mul-le-mul_left}
+use native.Mathlib.Nat.{suc-mul, zero-mul, mul-le-mul_right}
 use native.Mathlib.Omega.{arith}
 use native.Mathlib.Numerals.{add-one}
 use lib.ListN.{length, take, drop, length-append, length-set}
@@ -156,9 +156,6 @@ module _ {sweep : Box → Swept} {choose : Box → Open} {n lead w : ℕ} {start
         -- there is a slot behind the one in hand
         pub next_in : s * w + w + w ≤ length l
         next_in = omega (arith, next_top, h.len, f.room)
-
-        pub next_small : s + 1 ≤ length l
-        next_small = omega (arith, next_in, mul-le-mul_left s (let z : 1 ≤ w = omega (arith, f.some, f.wide) in z), f.some, f.wide)
 
         pub two_long : length (mid_of (s * w) (s * w + w + w - s * w) l) ≡ w + w
         two_long = let z : s * w + w + w - s * w ≡ w + w = omega arith in mid_len (s * w) (s * w + w + w) l next_in ∙ z

@@ -25,7 +25,6 @@ use Rattle.problem.specs.declared.Refusal.{Refusal}
 use Rattle.problem.specs.declared.Refusal.TheVariants.{Budget, Room, Leading}
 use Rattle.problem.specs.declared.Judged.{Judged}
 use Rattle.problem.specs.declared.Judged.TheVariants.{Sound, Refused}
-use Rattle.narrow.specs.inner.Done.{Fine}
 use Rattle.search.specs.Depth.{room_of}
 use Rattle.search.specs.Solve.{bad_budget, bad_room, or_else, judged}
 use Rattle.search.specs.inner.Ready.{Started, Led, Ready}
@@ -38,10 +37,6 @@ passed false g j e = (refl, e)
 both_passed : (j k : Judged) → or_else j k ≡ Sound → (j ≡ Sound) × (k ≡ Sound)
 both_passed Sound k e = (refl, e)
 both_passed (Refused g) k e = absurd (let z : ◌≡◌ {A = ℕ} 0 1 = cc in omega arith)
-
--- every range of the starting box can be computed with
-pub started_fine : {rs : List ℤ} → Started rs → Fine rs
-started_fine s = record { good = λ q h. s.good q (omega (arith, s.long)) }
 
 -- ---- grounds 1 to 5
 pub record Judges (rs ps ns ls : List ℤ) : Type 0 where

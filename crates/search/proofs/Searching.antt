@@ -6,7 +6,7 @@ use Prim.Native.Nat.{ℕ, suc, ◌+◌, ◌*◌, ◌/◌, ◌≤◌, ◌<◌}
 use native.Mathlib.Nat.{suc-mul}
 use native.Mathlib.Omega.{arith}
 use lib.ListN.{length, take, drop, length-append, length-drop}
-use lib.Seq.{drop_at, length-take-le}
+use lib.Seq.{drop_at}
 use lib.IntN.{ℤ, pos}
 use Rattle.whole.proofs.Kit.{ints}
 use Rattle.problem.specs.Problem.{Box, quantities}
@@ -60,9 +60,6 @@ module _ {rs ps ns ls : List ℤ} {lead : ℕ} {p₀ w₀ : List ℤ} (r : Ready
 
   pub width_in : length rs ≤ length w₀
   width_in = omega (arith, r.room, room_is, suc-mul (depth lead rs) (length rs))
-
-  pub first_long : length rs ≡ length (take (length rs) w₀)
-  first_long = sym (length-take-le (length rs) w₀ width_in)
 
   module _ (ys : List ℤ) (e : ys ≡ rs) where
     pub copied_long : length (ys ++ drop (length rs) w₀) ≡ length w₀

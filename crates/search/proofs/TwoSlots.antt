@@ -3,12 +3,12 @@ use mathlib.Core.Path.{◌≡◌, ap, ap₂, ◌∙◌}
 use mathlib.Core.List.{List, [], ◌∷◌, ◌++◌}
 use Prim.Native.Nat.{ℕ, suc, ◌+◌, ◌*◌, ◌<◌}
 use native.Mathlib.Omega.{arith}
-use lib.ListN.{length, take, get_or, set, get_or-append, length-set, length-append}
+use lib.ListN.{length, take, get_or, set, get_or-append, length-set}
 use lib.Seq.{length-take-le, set-append_left}
 use lib.IntN.{ℤ, pos, ◌+ℤ◌}
 use mir.Syntax.{w64}
 use mir.Val.{SFits}
-use Rattle.whole.specs.Numbers.{Near, middle_of}
+use Rattle.whole.specs.Numbers.{middle_of}
 use Rattle.whole.specs.inner.Held.{Is}
 use Rattle.whole.proofs.Kit.{nears, plus, at, rn, rd}
 use Rattle.problem.specs.Problem.{Box, low_at, high_at}
@@ -39,12 +39,6 @@ module _ (d l : List ℤ) (w q : ℕ) (s : Splittable d w q) (e : l ≡ take w d
 
   high_is : y ≡ high_at (take w d) q
   high_is = ey ∙ ap (λ (k : List ℤ). get_or k (2 * q + 1) (pos 0)) e ∙ get_or-append (take w d) (take w d) (pos 0) (2 * q + 1) (omega (arith, box_long, s.inside))
-
-  pub ends_near : Near x × Near y
-  ends_near = (rw low_is s.good.low, rw high_is s.good.high)
-
-  pub last_in : w + 2 * q + 1 < length l
-  last_in = omega (arith, ap length e, length-append (take w d) (take w d), box_long, s.inside)
 
   -- r is their middle
   module _ (r : ℤ) (i : Is (middle_of x y) r) where
