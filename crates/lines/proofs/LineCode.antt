@@ -8,8 +8,6 @@ use native.Mathlib.Omega.{arith}
 use lib.Dec.{eqb}
 use lib.IntN.{ℤ}
 use lib.ListN.{length}
-use types.Run.{OneOf, miss}
-use denote.Enum.Declared.{tag_of}
 use Rattle.sheet.specs.Tokens.{tokens_of}
 use Rattle.sheet.specs.Depth.{too_deep}
 use Rattle.sheet.specs.Grammar.{Line}
@@ -20,8 +18,6 @@ use Rattle.sheet.specs.declared.Mark.TheVariants.{Open, Close, Plus, Minus, Time
 use Rattle.sheet.specs.declared.Token.{Token}
 use Rattle.sheet.specs.declared.Token.TheVariants.{Number, Negative, Name, Fixed, Bad}
 use Rattle.sheet.proofs.Steps.{from_start}
-use Rattle.sheet.specs.contracts.Token as token
-use Rattle.sheet.specs.contracts.Mark as mark
 use Rattle.meaning.specs.Grounds.{one_line}
 use Rattle.meaning.specs.declared.Refusal.TheVariants as refusal
 use Rattle.lines.specs.declared.parts.Progress.{Progress}

@@ -1,6 +1,6 @@
 -- A problem as lists of numbers, as the calls take and give them. The reading is total; it is document 01's problem only where none of
 -- grounds 1 to 5 is met (Grounds.antt): what any other number reads as does not matter.
-use Rattle.std.specs.Prelude.{cond, List, [], ◌∷◌, ℕ, take, drop, ℤ, pos, nat_abs}
+use Rattle.std.specs.Prelude.{cond, List, [], ◌∷◌, take, drop, ℤ, pos, nat_abs}
 use Rattle.std.specs.Int.Signed.{le_z}
 use Rattle.problem.specs.Problem.{Problem}
 use Rattle.problem.specs.declared.Primitive.{Primitive}

@@ -11,9 +11,6 @@ use lib.ListN.{length}
 use borrow.Author.Tests.{ne_eqb}
 use mir.Syntax.{w64}
 use mir.Val.{SFits}
-use types.Run.{OneOf, miss}
-use denote.Enum.Declared.{tag_of}
-use Rattle.sheet.specs.contracts.Token.{the_type}
 use Rattle.sheet.proofs.Heads.{mark_above}
 use Rattle.whole.proofs.Kit.{ints, minus}
 use Rattle.sheet.specs.Grammar.{ranged, default}

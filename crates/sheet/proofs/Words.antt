@@ -9,9 +9,6 @@ use native.Mathlib.Omega.{arith}
 use lib.Dec.{lit<}
 use lib.ListN.{length, get_or, drop}
 use borrow.Author.Tests.{lt-leb, le-leb, lt-ltb}
-use types.Run.{OneOf, miss}
-use denote.Enum.Declared.{tag_of}
-use Rattle.sheet.specs.contracts.Token.{the_type}
 use Rattle.sheet.specs.Tokens.{digit_first, number_of, as_number, as_negative, key_of, all_lower, mark_of, or_else, as_name, word_of, minus_first, behind, token_of}
 use Rattle.sheet.specs.declared.Value.TheVariants.{Is}
 use Rattle.sheet.specs.declared.Token.{Token}

@@ -8,7 +8,7 @@ use native.Mathlib.Omega.{arith}
 use lib.Dec.{eqb, ltb}
 use lib.IntN.{ℤ}
 use lib.ListN.{length, take, drop}
-use borrow.Author.Tests.{ltb-false, eqb-false, ne_eqb}
+use borrow.Author.Tests.{ltb-false, eqb-false}
 use Rattle.sheet.specs.Lines.{lines_of, line_of}
 use Rattle.sheet.specs.inner.Places.{place_of}
 use Rattle.sheet.specs.declared.Value.TheVariants.{Is, Not}

@@ -2,10 +2,9 @@
 use mathlib.Core.Path.{sym}
 use native.Mathlib.Omega.{arith}
 use lib.Seq.{length-take-le}
-use borrow.Author.Rules.{rules}
 use Rattle.answer.proofs.Writing.{puts_as}
-use Rattle.translate.proofs.AcceptedFronts.{Taken, taken}
-use Rattle.answer.proofs.Accepted.{zeros_full, refused_output, Few, few, fronts, accepted_output}
+use Rattle.translate.proofs.AcceptedFronts.{taken}
+use Rattle.answer.proofs.Accepted.{zeros_full, refused_output, few, accepted_output}
 use Rattle.answer.proofs.Short.{answers}
 use Rattle.answer.proofs.answer.Goals as goal
 

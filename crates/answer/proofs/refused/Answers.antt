@@ -1,5 +1,4 @@
 -- The parts of the line are put one behind the other.
-use borrow.Author.Rules.{rules}
 use Rattle.answer.proofs.Writing.{puts_then}
 use Rattle.answer.proofs.refused.Goals as goal
 

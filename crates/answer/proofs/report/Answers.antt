@@ -1,5 +1,4 @@
 -- Each answer has its first line, and where a point is given its value lines behind it.
-use borrow.Author.Rules.{rules}
 use Rattle.answer.proofs.Writing.{puts_as, puts_then}
 use Rattle.answer.proofs.Reporting.{report_none, report_found, report_stopped, report_refused}
 use Rattle.answer.proofs.report.Goals as goal

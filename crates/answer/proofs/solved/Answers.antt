@@ -1,17 +1,14 @@
 -- The solve gets a point buffer of just n zeros and the whole workspace; of what it leaves the declared values are written.
 use mathlib.Core.Path.{◌≡◌, refl, sym, ◌∙◌}
-use mathlib.Core.List.{List, ◌++◌}
-use Prim.Native.Nat.{ℕ, ◌/◌, ◌≤◌}
+use Prim.Native.Nat.{◌/◌}
 use native.Mathlib.Omega.{arith}
-use lib.IntN.{ℤ, pos}
-use lib.ListN.{length, drop, replicate, length-append}
-use lib.Seq.{length-take-le}
+use lib.IntN.{pos}
+use lib.ListN.{length, drop, replicate}
 use mir.Facts.{to_z_pos}
 use mir.Syntax.{w64}
 use mir.Val.{to_z}
-use borrow.Author.Rules.{rules}
 use Rattle.answer.proofs.Writing.{puts_as}
-use Rattle.answer.proofs.Reporting.{zeros, zeros_length, names_fit, report_on_lem}
+use Rattle.answer.proofs.Reporting.{zeros, zeros_length, report_on_lem}
 use Rattle.answer.proofs.solved.Goals as goal
 
 pub returns : goal.returns

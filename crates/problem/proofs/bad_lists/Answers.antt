@@ -1,7 +1,6 @@
 -- `problem::bad_lists` meets its contract: its tests are those of `bad_lists`, in that order.
 use Rattle.problem.proofs.Judging.{primitives_long, lengths_long, literals_long, not_in_fours, in_fours}
 use native.Mathlib.Omega.{arith}
-use borrow.Author.Rules.{rules}
 use Rattle.problem.proofs.bad_lists.Goals as goal
 
 pub returns-then-primitives-gt1024 : goal.returns-then-primitives-gt1024

@@ -3,7 +3,6 @@ use Rattle.problem.specs.Grounds.{missing, beyond}
 use mathlib.Core.Path.{ap, ◌∙◌}
 use Rattle.problem.proofs.Judging.{told, no_q, sense_low, sense_high, bound_is}
 use Rattle.whole.proofs.Kit.{ints, rd}
-use borrow.Author.Rules.{rules}
 use Rattle.problem.proofs.bad_literal.Goals as goal
 
 pub returns-then-is_missing : goal.returns-then-is_missing

@@ -1,12 +1,8 @@
 -- `problem::bad_literals` meets its contract. The invariant: the list is judged as its rest from literal i on. The measure is the literals left.
-use Prim.Native.Nat.{◌*◌, ◌-◌, ◌≤◌}
-use lib.ListN.{drop}
-use Rattle.problem.specs.Grounds.{bad_literals}
-use mathlib.Core.Path.{◌≡◌, refl}
+use mathlib.Core.Path.{refl}
 use Rattle.problem.proofs.Scanning.{literals_hit, literals_turn, literals_done}
 use Rattle.whole.proofs.Kit.{got}
 use native.Mathlib.Omega.{arith}
-use borrow.Author.Rules.{rules}
 use Rattle.problem.proofs.bad_literals.Goals as goal
 
 pub loop-i-init : goal.loop-i-init

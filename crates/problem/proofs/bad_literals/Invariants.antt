@@ -2,11 +2,7 @@
 use Prim.Native.Nat.{◌*◌, ◌-◌, ◌≤◌}
 use lib.ListN.{drop}
 use Rattle.problem.specs.Grounds.{bad_literals}
-use mathlib.Core.Path.{◌≡◌, refl}
-use Rattle.problem.proofs.Scanning.{literals_hit, literals_turn, literals_done}
-use Rattle.whole.proofs.Kit.{got}
-use native.Mathlib.Omega.{arith}
-use borrow.Author.Rules.{rules}
+use mathlib.Core.Path.{◌≡◌}
 use Rattle.problem.proofs.bad_literals.Given as goal
 
 abbrev pub invariant-loop-i : goal.invariant-loop-i

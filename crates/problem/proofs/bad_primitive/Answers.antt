@@ -5,7 +5,6 @@ use Rattle.problem.specs.Grounds.{missing}
 use mathlib.Core.Path.{ap, ◌∙◌}
 use Rattle.problem.proofs.Judging.{told, kind_low, kind_high, no_z, no_x, two, one_low, one_high}
 use Rattle.whole.proofs.Kit.{ints, rd}
-use borrow.Author.Rules.{rules}
 use Rattle.problem.proofs.bad_primitive.Goals as goal
 
 pub returns-then-kind-lt1 : goal.returns-then-kind-lt1

@@ -1,12 +1,8 @@
 -- `problem::bad_primitives` meets its contract. The invariant: the list is judged as its rest from primitive i on. The measure is the primitives left.
-use Prim.Native.Nat.{◌*◌, ◌-◌, ◌≤◌}
-use lib.ListN.{drop}
-use Rattle.problem.specs.Grounds.{bad_primitives}
-use mathlib.Core.Path.{◌≡◌, refl}
+use mathlib.Core.Path.{refl}
 use Rattle.problem.proofs.Scanning.{primitives_hit, primitives_turn, primitives_done}
 use Rattle.whole.proofs.Kit.{got}
 use native.Mathlib.Omega.{arith}
-use borrow.Author.Rules.{rules}
 use Rattle.problem.proofs.bad_primitives.Goals as goal
 
 pub loop-i-init : goal.loop-i-init

@@ -2,11 +2,7 @@
 use Prim.Native.Nat.{◌*◌, ◌-◌, ◌≤◌}
 use lib.ListN.{drop}
 use Rattle.problem.specs.Grounds.{bad_primitives}
-use mathlib.Core.Path.{◌≡◌, refl}
-use Rattle.problem.proofs.Scanning.{primitives_hit, primitives_turn, primitives_done}
-use Rattle.whole.proofs.Kit.{got}
-use native.Mathlib.Omega.{arith}
-use borrow.Author.Rules.{rules}
+use mathlib.Core.Path.{◌≡◌}
 use Rattle.problem.proofs.bad_primitives.Given as goal
 
 abbrev pub invariant-loop-i : goal.invariant-loop-i

@@ -3,7 +3,6 @@ use Rattle.problem.specs.Grounds.{beyond}
 use mathlib.Core.Path.{ap, ◌∙◌}
 use Rattle.problem.proofs.Judging.{told, range_turned, range_low, range_high}
 use Rattle.whole.proofs.Kit.{ints, rd}
-use borrow.Author.Rules.{rules}
 use Rattle.problem.proofs.bad_range.Goals as goal
 
 pub returns-then-high-low : goal.returns-then-high-low

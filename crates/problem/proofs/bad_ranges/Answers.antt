@@ -1,12 +1,8 @@
 -- `problem::bad_ranges` meets its contract. The invariant: the list is judged as its rest from range q on. The measure is the ranges left.
 use Rattle.problem.proofs.Scanning.{ranges_hit, ranges_turn, ranges_done}
-use Prim.Native.Nat.{◌*◌, ◌-◌, ◌≤◌}
-use lib.ListN.{drop}
-use Rattle.problem.specs.Grounds.{bad_ranges}
-use mathlib.Core.Path.{◌≡◌, refl}
+use mathlib.Core.Path.{refl}
 use Rattle.whole.proofs.Kit.{got}
 use native.Mathlib.Omega.{arith}
-use borrow.Author.Rules.{rules}
 use Rattle.problem.proofs.bad_ranges.Goals as goal
 
 pub loop-q-init : goal.loop-q-init

@@ -6,7 +6,6 @@ use mathlib.Core.Path.{ap₂, ◌∙◌}
 use Rattle.problem.proofs.Judging.{missing_low, missing_high}
 use Rattle.whole.proofs.Kit.{ints, rd}
 use native.Mathlib.Omega.{arith}
-use borrow.Author.Rules.{rules}
 use Rattle.problem.proofs.is_missing.Goals as goal
 
 pub returns-then-q-lt0 : goal.returns-then-q-lt0

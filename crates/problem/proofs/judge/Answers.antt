@@ -3,7 +3,6 @@ use mathlib.Core.Path.{◌≡◌, sym, ◌∙◌}
 use mathlib.Core.Bool.{false}
 use Rattle.problem.specs.Grounds.{bad_quantities, bad_lists, bad_ranges}
 use Rattle.problem.proofs.Judging.{met_1, met_2, met_3, met_4, met_5, met_none, few_quantities}
-use borrow.Author.Rules.{rules}
 use Rattle.problem.proofs.judge.Goals as goal
 
 -- ---- after the first three tests

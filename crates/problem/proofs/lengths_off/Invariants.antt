@@ -1,12 +1,9 @@
 -- `problem::lengths_off` meets its contract. The invariant: none of the lengths before place i is below 0 or above 1,024, and their sum and the rest make up the total. The measure is the lengths left.
-use Rattle.problem.proofs.Scanning.{sum_small, sum_fits, below_0, signs_on, sums_on, too_long, lengths_end}
 use Prim.Native.Nat.{◌*◌, ◌-◌, ◌≤◌}
 use lib.IntN.{pos, ◌+ℤ◌}
-use lib.ListN.{length, get_or, drop}
+use lib.ListN.{length, drop}
 use Rattle.problem.specs.Grounds.{any_negative, total}
-use mathlib.Core.Path.{◌≡◌, refl}
-use Rattle.whole.proofs.Kit.{ints, got, index, at, plus}
-use native.Mathlib.Omega.{arith}
+use mathlib.Core.Path.{◌≡◌}
 use Rattle.problem.proofs.lengths_off.Given as goal
 
 abbrev pub invariant-loop-i : goal.invariant-loop-i

@@ -4,7 +4,6 @@ use lib.IntN.{pos}
 use lib.ListN.{get_or}
 use Rattle.problem.proofs.Reading.{most_is, least_is}
 use Rattle.whole.proofs.Kit.{index, got}
-use borrow.Author.Rules.{rules}
 use Rattle.problem.proofs.literal_at.Goals as goal
 
 pub overflow_cast-result : goal.overflow_cast-result

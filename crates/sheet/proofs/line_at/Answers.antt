@@ -1,7 +1,6 @@
 -- The stretch that `line_span` finds lies in the text, what stands there is the line, and the part handed back starts where it does.
 use mathlib.Core.Path.{refl, ap}
 use native.Mathlib.Omega.{arith}
-use borrow.Author.Rules.{rules}
 use Rattle.sheet.specs.declared.Stretch.{Stretch}
 use Rattle.sheet.proofs.Lines.{span_held}
 use Rattle.sheet.proofs.line_at.Goals as goal

@@ -1,13 +1,9 @@
 -- The stretch of the line is that of line `left` from `at` on: at 1 it is the line that starts there, and otherwise both go on to the next line.
 use Prim.Native.Nat.{◌+◌, ◌-◌, ◌<◌, ◌≤◌}
-use mathlib.Core.Path.{◌≡◌, sym, ◌∙◌, ap}
-use native.Mathlib.Nat.{pos_of_ne-zero}
-use native.Mathlib.Omega.{arith}
+use mathlib.Core.Path.{◌≡◌}
 use lib.ListN.{length}
-use borrow.Author.Rules.{rules}
 use Rattle.sheet.specs.Lines.{span_of}
-use Rattle.sheet.proofs.Places.{place_fits}
-use Rattle.sheet.proofs.Lines.{span_from, span_zero, span_start, span_first, span_later, span_missing}
+use Rattle.sheet.proofs.Lines.{span_from}
 use Rattle.sheet.proofs.line_span.Given as goal
 
 abbrev pub invariant-loop-at : goal.invariant-loop-at

@@ -1,7 +1,6 @@
 -- Grounds 19 to 22 are looked at in order, and where none is met the lines decide.
 use mathlib.Core.Path.{sym, ◌∙◌}
 use native.Mathlib.Omega.{arith}
-use borrow.Author.Rules.{rules}
 use lib.Seq.{length-take-le}
 use Rattle.sheet.proofs.Places.{place_fits}
 use Rattle.translate.proofs.TextCode.{lists_long, text_refused, first_refused, version_refused, lines_decide, refused_short, refused_text, translated_text}

@@ -1,7 +1,4 @@
 -- A number of one digit is that digit; any other is its tenth, which is less, with one digit behind it.
-use mathlib.Core.Path.{◌∙◌}
-use Prim.Native.Nat.{ℕ, ◌<◌}
-use native.Mathlib.Omega.{arith}
 use Rattle.answer.proofs.Writing.{puts_as, puts_then}
 use Rattle.answer.proofs.Decimal.{decimal_short, decimal_long}
 use Rattle.answer.proofs.write.+number.Goals as goal

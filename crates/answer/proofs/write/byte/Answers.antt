@@ -1,5 +1,4 @@
 -- A byte is written where there is a place for it, and nowhere else.
-use borrow.Author.Rules.{rules}
 use Rattle.answer.proofs.Writing.{puts_one, puts_past}
 use Rattle.answer.proofs.write.byte.Goals as goal
 

@@ -1,9 +1,8 @@
 -- Each turn puts the first of the bytes that are left.
 use mathlib.Core.Path.{◌≡◌}
 use Prim.Native.Nat.{◌≤◌, ◌-◌}
-use native.Mathlib.Omega.{arith}
 use lib.ListN.{length, drop}
-use Rattle.answer.proofs.Writing.{Left, left_start, left_more, left_none, from_here, past_end}
+use Rattle.answer.proofs.Writing.{Left}
 use Rattle.answer.proofs.write.bytes.Given as goal
 
 abbrev pub invariant-loop-i : goal.invariant-loop-i

@@ -1,13 +1,11 @@
 -- Each turn puts the first of the lines that are left.
-use mathlib.Core.Path.{◌≡◌, ap, ◌∙◌}
-use Prim.Native.Nat.{◌≤◌, ◌-◌, ◌*◌}
+use mathlib.Core.Path.{ap, ◌∙◌}
 use native.Mathlib.Omega.{arith}
 use lib.IntN.{pos}
-use lib.ListN.{length, drop, get_or}
+use lib.ListN.{get_or}
 use Rattle.whole.proofs.Kit.{got}
 use Rattle.answer.specs.Output.{signed_decimal}
-use Rattle.answer.specs.inner.Writing.{lines_for}
-use Rattle.answer.proofs.Writing.{Left, left_start, left_more, left_none, puts_as, puts_then, lines_more, lines_none}
+use Rattle.answer.proofs.Writing.{left_start, left_more, left_none, puts_as, puts_then, lines_more, lines_none}
 use Rattle.answer.proofs.write.lines.Goals as goal
 
 pub loop-q-init : goal.loop-q-init

@@ -1,13 +1,9 @@
 -- Each turn puts the first of the lines that are left.
-use mathlib.Core.Path.{◌≡◌, ap, ◌∙◌}
+use mathlib.Core.Path.{◌≡◌}
 use Prim.Native.Nat.{◌≤◌, ◌-◌, ◌*◌}
-use native.Mathlib.Omega.{arith}
-use lib.IntN.{pos}
-use lib.ListN.{length, drop, get_or}
-use Rattle.whole.proofs.Kit.{got}
-use Rattle.answer.specs.Output.{signed_decimal}
+use lib.ListN.{length, drop}
 use Rattle.answer.specs.inner.Writing.{lines_for}
-use Rattle.answer.proofs.Writing.{Left, left_start, left_more, left_none, puts_as, puts_then, lines_more, lines_none}
+use Rattle.answer.proofs.Writing.{Left}
 use Rattle.answer.proofs.write.lines.Given as goal
 
 abbrev pub invariant-loop-q : goal.invariant-loop-q

@@ -1,10 +1,6 @@
 -- Each turn puts the first of the bytes that are left before the padding.
-use mathlib.Core.Path.{◌≡◌}
-use Prim.Native.Nat.{◌≤◌, ◌-◌}
 use native.Mathlib.Omega.{arith}
-use lib.ListN.{length, drop}
-use Rattle.answer.specs.inner.Writing.{unpadded}
-use Rattle.answer.proofs.Writing.{Left, left_start, left_more, left_none, unpadded_end, unpadded_more, unpadded_none}
+use Rattle.answer.proofs.Writing.{left_start, left_more, left_none, unpadded_end, unpadded_more, unpadded_none}
 use Rattle.answer.proofs.write.name.Goals as goal
 
 pub loop-i-init : goal.loop-i-init

@@ -1,10 +1,9 @@
 -- From 0 on a value is its size; below 0 it is one nearer to 0 turned round, which fits, and one more.
-use mathlib.Core.Path.{◌∙◌}
 use lib.IntN.{pos, ◌+ℤ◌, ◌-ℤ◌}
 use lib.Signed.{◌≤ℤ◌, ◌<ℤ◌}
-use Rattle.whole.proofs.Kit.{ints, at, Holds, rd, lit, sum, dif, cast, cast_is, plus, minus, apart, fits_negative}
+use Rattle.whole.proofs.Kit.{ints, at, Holds, rd, lit, sum, dif, cast_is, plus, minus, fits_negative}
 use Rattle.answer.proofs.Writing.{puts_as, puts_then}
-use Rattle.answer.proofs.Decimal.{value_up, value_down}
+use Rattle.answer.proofs.Decimal.{value_down}
 use Rattle.answer.proofs.write.value.Goals as goal
 
 pub returns : goal.returns

@@ -1,14 +1,10 @@
 -- The cycle meets its contracts: each makes what its parts make.
 use mathlib.Core.Path.{sym, ◌∙◌, ap}
-use Prim.Native.Nat.{◌+◌, ◌*◌, ℕ, ◌<◌}
 use native.Mathlib.Omega.{arith}
 use lib.ListN.{length}
-use borrow.Author.Rules.{rules}
 use Rattle.sheet.specs.inner.Steps.{tokens_from}
-use Rattle.sheet.specs.Reading.{sum_f, prod_f}
-use Rattle.meaning.specs.Plain.{plain_e, plain_t}
 use Rattle.lines.proofs.FirstTokens.{number_small, longer, head_kind}
-use Rattle.lines.proofs.ExpressionCode.{sum_turn, prod_turn, Going, start, expr_no, expr_on, sum_end, sum_no, term_no, term_on, prod_end, prod_no, factor_no, factor_square, factor_bare, atom_number, atom_name, atom_none, atom_unread, atom_unclosed, atom_close}
+use Rattle.lines.proofs.ExpressionCode.{sum_turn, prod_turn, start, expr_no, expr_on, sum_end, sum_no, term_no, term_on, prod_end, prod_no, factor_no, factor_square, factor_bare, atom_number, atom_name, atom_none, atom_unread, atom_unclosed, atom_close}
 use Rattle.lines.proofs.expression.+atom_expr_factor_term.Goals as goal
 
 pub atom-constant-requires : goal.atom-constant-requires

@@ -1,6 +1,5 @@
 -- `expression::added` meets its contract: the test is that of the contract.
 use borrow.Author.Tests.{eq-eqb, ne_eqb}
-use borrow.Author.Rules.{rules}
 use Rattle.lines.proofs.expression.added.Goals as goal
 
 pub returns-then-n-eq-PLUS : goal.returns-then-n-eq-PLUS

@@ -1,12 +1,10 @@
 -- What is copied so far stands at the front, and each turn puts one number more behind it.
-use Prim.Native.Nat.{◌-◌, ◌≤◌}
-use mathlib.Core.Path.{◌≡◌, refl, ◌∙◌}
+use mathlib.Core.Path.{refl, ◌∙◌}
 use native.Mathlib.Omega.{arith}
 use lib.IntN.{pos}
-use lib.ListN.{length, length-set}
-use borrow.Author.Rules.{rules}
+use lib.ListN.{length-set}
 use Rattle.whole.proofs.Kit.{got}
-use Rattle.lines.proofs.Filling.{copied, copy_next, copy_done}
+use Rattle.lines.proofs.Filling.{copy_next, copy_done}
 use Rattle.lines.proofs.front.copy.Goals as goal
 
 pub loop-i-init : goal.loop-i-init

@@ -1,12 +1,8 @@
 -- What is copied so far stands at the front, and each turn puts one number more behind it.
 use Prim.Native.Nat.{◌-◌, ◌≤◌}
-use mathlib.Core.Path.{◌≡◌, refl, ◌∙◌}
-use native.Mathlib.Omega.{arith}
-use lib.IntN.{pos}
-use lib.ListN.{length, length-set}
-use borrow.Author.Rules.{rules}
-use Rattle.whole.proofs.Kit.{got}
-use Rattle.lines.proofs.Filling.{copied, copy_next, copy_done}
+use mathlib.Core.Path.{◌≡◌}
+use lib.ListN.{length}
+use Rattle.lines.proofs.Filling.{copied}
 use Rattle.lines.proofs.front.copy.Given as goal
 
 abbrev pub invariant-loop-i : goal.invariant-loop-i

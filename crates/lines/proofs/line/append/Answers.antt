@@ -5,7 +5,6 @@ use lib.ListN.{length-set, length-take, length-drop}
 use lib.Seq.{length-take-le}
 use Rattle.lines.proofs.ClauseCode.{append_one, append_two}
 use native.Mathlib.Omega.{arith}
-use borrow.Author.Rules.{rules}
 use Rattle.lines.proofs.line.append.Goals as goal
 
 pub returns-then-equals-eq0 : goal.returns-then-equals-eq0

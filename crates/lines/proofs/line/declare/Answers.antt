@@ -2,7 +2,6 @@
 use mathlib.Core.Path.{refl, sym}
 use native.Mathlib.Omega.{arith}
 use lib.Seq.{length-take-le}
-use borrow.Author.Rules.{rules}
 use Rattle.lines.proofs.RangeLineCode.{order_told, declare_late, declare_twice, declare_order, declare_many, declare_next}
 use Rattle.lines.proofs.line.declare.Goals as goal
 

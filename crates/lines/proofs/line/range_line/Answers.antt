@@ -1,6 +1,5 @@
 -- What `declaration` says is the tree of the tokens, and `declare` answers to it.
 use mathlib.Core.Path.{refl, sym, ◌∙◌}
-use borrow.Author.Rules.{rules}
 use Rattle.whole.proofs.Kit.{ints}
 use Rattle.sheet.specs.Reading.{read_range}
 use Rattle.sheet.specs.inner.Steps.{tokens_from}

@@ -2,7 +2,6 @@
 use mathlib.Core.Path.{sym, ap, ◌∙◌}
 use Rattle.sheet.specs.declared.Token.TheVariants.{Fixed}
 use Rattle.lines.proofs.LineCode.{line_deep, line_range, line_must, line_if, line_other, not_fixed, other_mark}
-use borrow.Author.Rules.{rules}
 use Rattle.lines.proofs.line.read_line.Goals as goal
 
 pub returns-then-deep : goal.returns-then-deep

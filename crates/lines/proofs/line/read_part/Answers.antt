@@ -1,5 +1,4 @@
 -- Each branch is the reading that its flag says.
-use borrow.Author.Rules.{rules}
 use Rattle.lines.proofs.RuleLineCode.{rules_if, rules_must}
 use Rattle.lines.proofs.line.read_part.Goals as goal
 

@@ -8,7 +8,6 @@ use Rattle.sheet.specs.inner.Steps.{tokens_from}
 use Rattle.lines.proofs.HeldRoom.{room}
 use Rattle.lines.proofs.RuleLineCode.{rule_unread, rule_names, rule_equalities, rule_beyond, rule_many, rule_room, rule_next}
 use native.Mathlib.Omega.{arith}
-use borrow.Author.Rules.{rules}
 use Rattle.lines.proofs.line.rule_line.Goals as goal
 
 pub slice_bounds-read_part-end : goal.slice_bounds-read_part-end

@@ -1,10 +1,8 @@
 -- `rule::comparison` meets its contract: what is listed of a comparison is what its two sides make, their difference, and the literals of its sign.
 use mathlib.Core.Path.{◌∙◌, ap}
 use native.Mathlib.Omega.{arith}
-use borrow.Author.Rules.{rules}
 use Rattle.sheet.specs.Reading.{sign_of}
 use Rattle.sheet.specs.inner.Steps.{tokens_from}
-use Rattle.lines.specs.inner.Emission.{Listing}
 use Rattle.lines.specs.inner.Comparisons.{listing_of, turned_by}
 use Rattle.lines.proofs.ComparisonCode.{comparison_no, comparison_low, comparison_high, comparison_half, comparison_is}
 use Rattle.lines.proofs.FirstTokens.{head_kind}

@@ -1,13 +1,7 @@
 -- `rule::comparisons` meets its contract. The loop's invariant: what is listed from here on is what is listed from the loop's start on. The tokens that are left fall.
-use mathlib.Core.Path.{sym, ◌∙◌, ap}
-use native.Mathlib.Omega.{arith}
 use lib.ListN.{length}
-use borrow.Author.Rules.{rules}
 use Rattle.sheet.specs.inner.Steps.{tokens_from}
-use Rattle.lines.specs.inner.Emission.{Listing}
-use Rattle.lines.specs.inner.Comparisons.{listing_of}
-use Rattle.lines.proofs.ComparisonCode.{shorter, Walks, walks_start, walks_turn, more_end, more_no, all_no, all_on}
-use Rattle.lines.proofs.FirstTokens.{head_kind}
+use Rattle.lines.proofs.ComparisonCode.{Walks}
 use Rattle.lines.proofs.rule.comparisons.Given as goal
 
 abbrev pub invariant-loop-s : goal.invariant-loop-s

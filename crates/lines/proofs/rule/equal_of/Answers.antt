@@ -1,6 +1,5 @@
 -- `rule::equal_of` meets its contract: each arm is one clause of `equal`.
 use native.Mathlib.Omega.{arith}
-use borrow.Author.Rules.{rules}
 use Rattle.meaning.specs.Translation.{equal}
 use Rattle.lines.proofs.rule.equal_of.Goals as goal
 

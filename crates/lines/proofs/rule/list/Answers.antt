@@ -1,5 +1,4 @@
 -- `rule::list` meets its contract: both clauses get the sign's literals, each by its turn.
-use borrow.Author.Rules.{rules}
 use Rattle.lines.proofs.SignCode.{both_listed}
 use Rattle.lines.proofs.rule.list.Goals as goal
 

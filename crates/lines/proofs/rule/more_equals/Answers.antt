@@ -1,5 +1,4 @@
 -- `rule::more_equals` meets its contract: its test is that of `more_equals`.
-use borrow.Author.Rules.{rules}
 use Rattle.lines.proofs.SignCode.{equals_more, equals_same}
 use Rattle.lines.proofs.rule.more_equals.Goals as goal
 

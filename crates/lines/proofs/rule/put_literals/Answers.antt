@@ -1,5 +1,4 @@
 -- `rule::put_literals` meets its contract: each arm is one clause of `literals_for`.
-use borrow.Author.Rules.{rules}
 use Rattle.lines.specs.inner.Comparisons.{turn_of}
 use Rattle.lines.proofs.SignCode.{put_most, put_below, put_least, put_above, put_equal, put_differ}
 use Rattle.lines.proofs.rule.put_literals.Goals as goal

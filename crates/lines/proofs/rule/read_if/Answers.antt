@@ -1,8 +1,6 @@
 -- `rule::read_if` meets its contract: the rule is the conditions and, behind `then`, the demands, if nothing follows them.
 use mathlib.Core.Path.{sym, ◌∙◌}
-use borrow.Author.Rules.{rules}
 use Rattle.sheet.specs.inner.Steps.{tokens_from}
-use Rattle.lines.specs.inner.Emission.{Listing}
 use Rattle.lines.specs.inner.Comparisons.{listing_of}
 use Rattle.lines.proofs.RuleCode.{if_no, if_other, if_half, if_is}
 use Rattle.lines.proofs.FirstTokens.{head_kind}

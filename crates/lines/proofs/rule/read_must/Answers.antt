@@ -1,6 +1,4 @@
 -- `rule::read_must` meets its contract: the rule is the demands, if nothing follows them.
-use borrow.Author.Rules.{rules}
-use Rattle.lines.specs.inner.Emission.{Listing}
 use Rattle.lines.specs.inner.Comparisons.{listing_of}
 use Rattle.lines.proofs.RuleCode.{must_no, must_is}
 use Rattle.lines.proofs.rule.read_must.Goals as goal

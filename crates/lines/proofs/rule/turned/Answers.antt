@@ -1,6 +1,5 @@
 -- `rule::turned` meets its contract: its test is that of `turned_by`.
 use borrow.Author.Tests.{eq-eqb, ne_eqb}
-use borrow.Author.Rules.{rules}
 use Rattle.lines.proofs.rule.turned.Goals as goal
 
 pub returns-then-mark-eq-AND : goal.returns-then-mark-eq-AND

@@ -2,7 +2,6 @@
 use native.Mathlib.Omega.{arith}
 use mir.Syntax.{w64}
 use mir.Facts.{to_z_pos}
-use borrow.Author.Rules.{rules}
 use Rattle.lines.proofs.HelperCode.{constant_is}
 use Rattle.lines.proofs.writing.constant.Goals as goal
 

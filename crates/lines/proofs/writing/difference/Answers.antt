@@ -1,4 +1,3 @@
-use borrow.Author.Rules.{rules}
 use Rattle.lines.proofs.HelperCode.{difference_is}
 use Rattle.lines.proofs.writing.difference.Goals as goal
 

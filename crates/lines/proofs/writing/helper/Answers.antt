@@ -1,6 +1,5 @@
 -- `writing::helper` meets its contract: the range is kept, written at the next place, and the flag is raised where it is bad.
 use mathlib.Core.Path.{ap₂, ◌∙◌}
-use borrow.Author.Rules.{rules}
 use Rattle.whole.proofs.Kit.{got}
 use Rattle.problem.proofs.Tests.{or_yes, or_no}
 use Rattle.problem.specs.Grounds.{bad_range}

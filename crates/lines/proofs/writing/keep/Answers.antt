@@ -1,5 +1,4 @@
 -- `writing::keep` meets its contract: a range that is not bad is good.
-use borrow.Author.Rules.{rules}
 use Rattle.whole.proofs.Kit.{got}
 use Rattle.lines.proofs.ComputableRanges.{bad_told, kept_bad, kept_good}
 use Rattle.lines.proofs.writing.keep.Goals as goal

@@ -1,7 +1,6 @@
 -- `writing::named` meets its contract: the quantity is the name's place, and the flag is raised where the name was not declared.
 use mathlib.Core.Path.{◌∙◌}
 use lib.ListN.{length}
-use borrow.Author.Rules.{rules}
 use Rattle.problem.proofs.Tests.{or_yes, or_no}
 use Rattle.meaning.specs.Plain.{place_of}
 use Rattle.lines.proofs.HelperCode.{named_is}

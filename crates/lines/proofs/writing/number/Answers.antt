@@ -1,5 +1,4 @@
 -- `writing::number` meets its contract: a number below the limit fits, and is written as it is.
-use borrow.Author.Rules.{rules}
 use Rattle.lines.proofs.StoredNumbers.{small_is, small_none}
 use Rattle.lines.proofs.writing.number.Goals as goal
 

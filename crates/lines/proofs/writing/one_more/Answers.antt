@@ -1,5 +1,4 @@
 -- `writing::one_more` meets its contract: its test is that of `bump`.
-use borrow.Author.Rules.{rules}
 use Rattle.lines.proofs.StoredNumbers.{bump_more, bump_same}
 use Rattle.lines.proofs.writing.one_more.Goals as goal
 

@@ -1,5 +1,4 @@
 -- `writing::operated` meets its contract: the primitive is written first, then the helper is made.
-use borrow.Author.Rules.{rules}
 use Rattle.lines.proofs.HelperCode.{operated_is}
 use Rattle.lines.proofs.writing.operated.Goals as goal
 

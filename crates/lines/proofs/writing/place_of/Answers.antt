@@ -1,9 +1,5 @@
 -- `writing::place_of` meets its contract. The loop's invariant: the place of the name is `i` and its place in what is left.
-use mathlib.Core.Path.{◌≡◌}
-use Prim.Native.Nat.{◌+◌, ◌-◌, ◌≤◌}
 use native.Mathlib.Omega.{arith}
-use lib.ListN.{length, drop}
-use Rattle.meaning.specs.Plain.{place_of}
 use Rattle.lines.proofs.HelperCode.{place_here, place_on, place_none}
 use Rattle.lines.proofs.writing.place_of.Goals as goal
 

@@ -1,4 +1,3 @@
-use borrow.Author.Rules.{rules}
 use Rattle.lines.proofs.HelperCode.{product_is}
 use Rattle.lines.proofs.writing.product.Goals as goal
 

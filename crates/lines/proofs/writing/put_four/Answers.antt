@@ -1,5 +1,4 @@
 -- `writing::put_four` meets its contract: the four stores are those of `put_four`.
-use borrow.Author.Rules.{rules}
 use Rattle.whole.proofs.Kit.{rd}
 use Rattle.lines.proofs.StoredNumbers.{four_put, four_out}
 use Rattle.lines.proofs.writing.put_four.Goals as goal

@@ -1,6 +1,5 @@
 -- `writing::put_primitive` meets its contract: each kind's numbers are those of `put_primitive`.
 use mathlib.Core.Path.{◌∙◌}
-use borrow.Author.Rules.{rules}
 use Rattle.whole.proofs.Kit.{got}
 use Rattle.lines.proofs.StoredNumbers.{sum_put, product_put, square_put}
 use Rattle.lines.proofs.writing.put_primitive.Goals as goal

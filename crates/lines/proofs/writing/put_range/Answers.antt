@@ -1,5 +1,4 @@
 -- `writing::put_range` meets its contract: the two stores are those of `put_range`.
-use borrow.Author.Rules.{rules}
 use Rattle.whole.proofs.Kit.{got}
 use Rattle.lines.proofs.StoredNumbers.{range_put, range_out}
 use Rattle.lines.proofs.writing.put_range.Goals as goal

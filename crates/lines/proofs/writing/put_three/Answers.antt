@@ -1,5 +1,4 @@
 -- `writing::put_three` meets its contract: the three stores are those of `put_three`.
-use borrow.Author.Rules.{rules}
 use Rattle.whole.proofs.Kit.{rd}
 use Rattle.lines.proofs.StoredNumbers.{three_put, three_out}
 use Rattle.lines.proofs.writing.put_three.Goals as goal

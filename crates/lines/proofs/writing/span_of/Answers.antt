@@ -1,6 +1,5 @@
 -- `writing::span_of` meets its contract: past the list's end both numbers are 0.
 use mathlib.Core.Path.{◌∙◌}
-use borrow.Author.Rules.{rules}
 use Rattle.whole.proofs.Kit.{got}
 use Rattle.lines.proofs.ComputableRanges.{span_in, span_out}
 use Rattle.lines.proofs.writing.span_of.Goals as goal

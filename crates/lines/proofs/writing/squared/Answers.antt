@@ -1,4 +1,3 @@
-use borrow.Author.Rules.{rules}
 use Rattle.lines.proofs.HelperCode.{square_is}
 use Rattle.lines.proofs.writing.squared.Goals as goal
 

@@ -1,7 +1,6 @@
 -- `writing::store` meets its contract: past the end `set` changes nothing.
 use mathlib.Core.Path.{sym}
 use lib.Seq.{set_out}
-use borrow.Author.Rules.{rules}
 use Rattle.lines.proofs.writing.store.Goals as goal
 
 pub returns-else-i-list : goal.returns-else-i-list

@@ -1,4 +1,3 @@
-use borrow.Author.Rules.{rules}
 use Rattle.lines.proofs.HelperCode.{sum_is}
 use Rattle.lines.proofs.writing.sum.Goals as goal
 

@@ -1,17 +1,14 @@
 -- `leading::bad_leading` meets its contract. The invariant: the lists are judged as the quantities from q on are. The measure is the quantities left.
 use mathlib.Core.Path.{◌≡◌, refl, ap, ◌∙◌}
 use mathlib.Core.Bool.{not}
-use Prim.Native.Nat.{◌-◌, ◌≤◌}
 use native.Mathlib.Omega.{arith}
-use borrow.Author.Rules.{rules}
 use mir.Facts.{to_z_pos}
 use mir.Syntax.{w64}
 use mir.Val.{to_z}
 use lib.IntN.{pos}
 use Rattle.whole.proofs.Kit.{ints, at, index, rd, nat_abs_is, apart}
 use Rattle.problem.specs.Problem.{quantities}
-use Rattle.problem.specs.Lists.{primitives_of}
-use Rattle.problem.specs.Leading.{defined_from, bad_leading}
+use Rattle.problem.specs.Leading.{bad_leading}
 use Rattle.problem.proofs.Defining.{lead_none, lead_many, lead_start, later_bad, later_turn, later_done}
 use Rattle.problem.proofs.leading.bad_leading.Goals as goal
 

@@ -1,5 +1,4 @@
 -- `leading::is_defined` meets its contract: a range of one value is enough, and any other asks the primitives.
-use borrow.Author.Rules.{rules}
 use Rattle.whole.proofs.Kit.{got}
 use Rattle.problem.specs.Lists.{primitives_of}
 use Rattle.problem.proofs.Defining.{defined_open, defined_one}

@@ -1,12 +1,9 @@
 -- `leading::is_made` meets its contract. The invariant: the list makes q exactly if its rest from primitive i on does. The measure is the primitives left.
-use mathlib.Core.Path.{◌≡◌, refl}
+use mathlib.Core.Path.{◌≡◌}
 use Prim.Native.Nat.{◌*◌, ◌-◌, ◌≤◌}
-use native.Mathlib.Omega.{arith}
-use borrow.Author.Rules.{rules}
 use lib.ListN.{drop}
 use Rattle.problem.specs.Lists.{primitives_of}
 use Rattle.problem.specs.Leading.{made}
-use Rattle.problem.proofs.Defining.{made_hit, made_turn, made_done}
 use Rattle.problem.proofs.leading.is_made.Given as goal
 
 abbrev pub invariant-loop-i : goal.invariant-loop-i

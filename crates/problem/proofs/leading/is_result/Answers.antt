@@ -1,6 +1,5 @@
 -- `leading::is_result` meets its contract: each kind asks the tests of its definition.
 use mathlib.Core.Path.{sym, ◌∙◌}
-use borrow.Author.Rules.{rules}
 use Rattle.problem.proofs.Defining.{makes_z, makes_x, makes_y, makes_product, makes_square, makes_none}
 use Rattle.problem.proofs.leading.is_result.Goals as goal
 

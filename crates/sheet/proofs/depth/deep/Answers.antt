@@ -1,12 +1,7 @@
 -- What is asked of the whole line is asked of the tokens from i on, with what was opened and closed before them.
-use mathlib.Core.Path.{◌≡◌, sym, ◌∙◌, ap}
-use Prim.Native.Nat.{◌+◌, ◌-◌, ◌≤◌}
+use mathlib.Core.Path.{sym, ◌∙◌, ap}
 use native.Mathlib.Omega.{arith}
-use lib.ListN.{length}
-use borrow.Author.Rules.{rules}
-use Rattle.sheet.specs.Tokens.{tokens_of}
-use Rattle.sheet.specs.Depth.{deep_from, too_deep}
-use Rattle.sheet.specs.inner.Steps.{tokens_from}
+use Rattle.sheet.specs.Depth.{deep_from}
 use Rattle.sheet.proofs.Steps.{from_start}
 use Rattle.sheet.proofs.Depths.{opens_few, closes_few, deep_end, deep_over, deep_under, moves}
 use Rattle.sheet.proofs.depth.deep.Goals as goal

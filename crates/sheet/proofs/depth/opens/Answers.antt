@@ -1,6 +1,5 @@
 -- The token's number tells whether it is the bracket that opens.
 use mathlib.Core.Path.{sym, ◌∙◌}
-use borrow.Author.Rules.{rules}
 use borrow.Author.Tests.{eq-eqb, ne_eqb}
 use Rattle.sheet.specs.Reading.{token_no}
 use Rattle.sheet.proofs.Depths.{opens_number}

@@ -1,11 +1,7 @@
 -- The next place from `at` on is the next place from i on, until the byte at i is m or the text ends.
-use Prim.Native.Nat.{◌-◌}
-use mathlib.Core.Path.{◌≡◌, refl, sym, ◌∙◌}
+use mathlib.Core.Path.{refl, sym, ◌∙◌}
 use native.Mathlib.Nat.{add-zero}
 use native.Mathlib.Omega.{arith}
-use lib.ListN.{length}
-use borrow.Author.Rules.{rules}
-use Rattle.sheet.specs.inner.Places.{place_of}
 use Rattle.sheet.proofs.Places.{up_to_stop, up_to_more, up_to_none}
 use Rattle.sheet.proofs.line.place.Goals as goal
 

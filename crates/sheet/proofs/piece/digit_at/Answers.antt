@@ -1,6 +1,5 @@
 -- In the piece the byte decides; past its end nothing stands.
 use mathlib.Core.Path.{sym, ◌∙◌}
-use borrow.Author.Rules.{rules}
 use Rattle.sheet.proofs.Digits.{digit_here, digit_none}
 use Rattle.sheet.proofs.piece.digit_at.Goals as goal
 

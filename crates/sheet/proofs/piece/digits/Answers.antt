@@ -1,13 +1,11 @@
 -- The value of the whole is what the bytes from i on make of v, until a byte that is no digit, a value above M, or the end decides.
-use Prim.Native.Nat.{ℕ, ◌+◌, ◌-◌, ◌*◌, ◌≤◌, ◌<◌}
+use Prim.Native.Nat.{ℕ, ◌+◌, ◌-◌, ◌*◌, ◌<◌}
 use mathlib.Core.Bool.{Bool, true, false}
 use mathlib.Core.List.{List}
 use mathlib.Core.Path.{◌≡◌, sym, ◌∙◌, ap}
 use native.Mathlib.Nat.{pos_of_ne-zero}
 use native.Mathlib.Omega.{arith}
 use lib.ListN.{length, drop, get_or}
-use borrow.Author.Rules.{rules}
-use borrow.Author.Tests.{not-true, not-false}
 use Rattle.sheet.specs.Tokens.{is_digit, limited, suffix_of, digits_of}
 use Rattle.sheet.specs.declared.Value.{Value}
 use Rattle.sheet.proofs.Digits.{digit_low, digit_high, limited_fits, digits_more, digits_unit, digits_none, suffix_long, suffix_last, suffix_none, digits_big}

@@ -1,11 +1,10 @@
 -- The key of the whole is what the bytes from i on make of the key of those before; i bytes make less than 256 to the i.
-use Prim.Native.Nat.{ℕ, ◌+◌, ◌-◌, ◌*◌, ◌^◌, ◌≤◌, ◌<◌}
-use mathlib.Core.Path.{◌≡◌, sym, ◌∙◌, ap}
+use Prim.Native.Nat.{ℕ, ◌+◌, ◌*◌, ◌^◌, ◌<◌}
+use mathlib.Core.Path.{sym, ◌∙◌, ap}
 use native.Mathlib.Nat.{lt_of_lt_of_le}
 use native.Mathlib.Omega.{arith}
 use lib.Dec.{lit<}
-use lib.ListN.{length, drop}
-use borrow.Author.Rules.{rules}
+use lib.ListN.{drop}
 use Rattle.sheet.specs.Tokens.{key_of}
 use Rattle.sheet.proofs.Words.{key_more, key_none, room, room_top}
 use Rattle.sheet.proofs.piece.key.Goals as goal

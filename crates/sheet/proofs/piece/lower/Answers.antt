@@ -1,10 +1,6 @@
 -- Whether all bytes are letters is whether those from i on are, until one is not.
-use Prim.Native.Nat.{◌≤◌, ◌-◌}
-use mathlib.Core.Path.{◌≡◌, sym, ◌∙◌}
+use mathlib.Core.Path.{sym, ◌∙◌}
 use native.Mathlib.Omega.{arith}
-use lib.ListN.{length, drop}
-use borrow.Author.Rules.{rules}
-use Rattle.sheet.specs.Tokens.{all_lower}
 use Rattle.sheet.proofs.Words.{lower_more, lower_under, lower_over, lower_none}
 use Rattle.sheet.proofs.piece.lower.Goals as goal
 

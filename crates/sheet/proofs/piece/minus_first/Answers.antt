@@ -1,6 +1,5 @@
 -- The first byte decides, and the one behind it.
 use mathlib.Core.Path.{sym, ◌∙◌}
-use borrow.Author.Rules.{rules}
 use Rattle.sheet.proofs.Digits.{minus_none, minus_here, minus_other}
 use Rattle.sheet.proofs.piece.minus_first.Goals as goal
 

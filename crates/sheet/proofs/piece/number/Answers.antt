@@ -1,14 +1,11 @@
 -- A digit must stand first, and behind a 0 no other; the rest is what the further digits make of the first.
 use mathlib.Core.Path.{◌≡◌, sym, ◌∙◌, ap}
 use mathlib.Core.Bool.{true}
-use mathlib.Core.Logic.{⊎_elim}
 use Prim.Native.Nat.{ℕ}
 use native.Mathlib.Omega.{arith}
 use lib.ListN.{get_or, drop}
-use borrow.Author.Tests.{not-true, not-false}
 use Rattle.sheet.specs.Tokens.{digit_first, digits_of}
 use Rattle.sheet.proofs.Digits.{digit_low, digit_high, digit_some, digit_is, number_none, number_led, number_zero, number_more}
-use borrow.Author.Rules.{rules}
 use Rattle.sheet.proofs.piece.number.Goals as goal
 use Rattle.sheet.proofs.piece.number.Goals.{else-b-eq48-via-then-b-eq48+else-digit_at, else-b-eq48-via-else-b-eq48}
 

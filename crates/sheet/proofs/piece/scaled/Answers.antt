@@ -2,7 +2,6 @@
 use mathlib.Core.Path.{sym}
 use native.Mathlib.Nat.{lt_of_le_of_lt}
 use lib.Dec.{lit<}
-use borrow.Author.Rules.{rules}
 use Rattle.sheet.proofs.Digits.{limited_fits, limited_big, times_fits, times_big}
 use Rattle.sheet.proofs.piece.scaled.Goals as goal
 

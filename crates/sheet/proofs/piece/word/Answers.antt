@@ -1,9 +1,8 @@
 -- A piece of more than eight bytes is no word; one that is a mark is that mark; any other is a name if it is letters alone.
 use mathlib.Core.Path.{◌≡◌, sym, ◌∙◌, ap}
 use Rattle.sheet.specs.Tokens.{mark_of, key_of}
-use Rattle.sheet.specs.declared.Token.TheVariants.{Name, Bad}
+use Rattle.sheet.specs.declared.Token.TheVariants.{Name}
 use Rattle.sheet.proofs.Words.{not_bad, word_long, word_short, word_empty, word_letters, word_other}
-use borrow.Author.Rules.{rules}
 use Rattle.sheet.proofs.piece.word.Goals as goal
 
 pub returns-then-w-gt8 : goal.returns-then-w-gt8

@@ -1,7 +1,5 @@
 -- Each return is one law of Declarations.antt, with the tokens as the steps found them.
 use mathlib.Core.Path.{sym, ◌∙◌}
-use borrow.Author.Rules.{rules}
-use borrow.Author.Tests.{not-true, not-false}
 use Rattle.whole.proofs.Kit.{got}
 use Rattle.sheet.specs.inner.Steps.{tokens_from}
 use Rattle.sheet.proofs.Steps.{none_at, some_left}

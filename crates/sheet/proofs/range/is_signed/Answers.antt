@@ -1,6 +1,5 @@
 -- The two tests are those of `is_signed`.
 use mathlib.Core.Path.{sym, ◌∙◌}
-use borrow.Author.Rules.{rules}
 use borrow.Author.Tests.{eq-eqb, ne_eqb}
 use Rattle.sheet.specs.Reading.{token_no}
 use Rattle.sheet.proofs.range.is_signed.Goals as goal

@@ -3,7 +3,6 @@ use mathlib.Core.Path.{sym, ◌∙◌, ap, subst}
 use Prim.Native.Nat.{◌≤◌, ◌<◌}
 use mir.Syntax.{w64}
 use mir.ValLaws.{to_z_pos}
-use borrow.Author.Rules.{rules}
 use Rattle.whole.proofs.Kit.{rd}
 use Rattle.sheet.specs.Reading.{signed_of}
 use Rattle.sheet.specs.inner.Contents.{Proper}

@@ -1,7 +1,6 @@
 -- Each arm is one clause of `token_no`.
 use mathlib.Core.Path.{sym, ◌∙◌, ap}
 use Rattle.sheet.specs.Reading.{token_no}
-use borrow.Author.Rules.{rules}
 use Rattle.sheet.proofs.tokens.kind.Goals as goal
 
 pub returns-in-Fixed : goal.returns-in-Fixed

@@ -3,7 +3,6 @@ use mathlib.Core.Path.{sym, ap}
 use Rattle.sheet.specs.declared.Mark.{Mark}
 use Rattle.sheet.specs.Reading.{token_no}
 use Rattle.sheet.specs.declared.Token.TheVariants.{Fixed}
-use borrow.Author.Rules.{rules}
 use Rattle.sheet.proofs.tokens.mark_kind.Goals as goal
 
 pub returns-in-Open : goal.returns-in-Open

@@ -2,7 +2,6 @@
 use mathlib.Core.Path.{sym, ap, ◌∙◌}
 use Rattle.sheet.specs.Tokens.{as_negative}
 use Rattle.sheet.proofs.Words.{negative_some}
-use borrow.Author.Rules.{rules}
 use Rattle.sheet.proofs.tokens.negative.Goals as goal
 
 pub returns-else-n-eq0 : goal.returns-else-n-eq0

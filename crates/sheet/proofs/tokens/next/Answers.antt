@@ -3,7 +3,6 @@ use mathlib.Core.Path.{◌∙◌, ap}
 use Rattle.sheet.specs.inner.Steps.{tokens_from}
 use Rattle.sheet.specs.declared.Step.{Step}
 use Rattle.sheet.proofs.Steps.{next_head, next_rest}
-use borrow.Author.Rules.{rules}
 use Rattle.sheet.proofs.tokens.next.Goals as goal
 
 pub returns : goal.returns

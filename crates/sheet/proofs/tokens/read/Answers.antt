@@ -6,7 +6,6 @@ use lib.ListN.{length, drop, length-drop}
 use lib.Seq.{take_all}
 use Rattle.sheet.specs.Tokens.{number_of, as_number, as_negative}
 use Rattle.sheet.proofs.Words.{token_number, token_negative, token_word, behind_drop, minus_some}
-use borrow.Author.Rules.{rules}
 use Rattle.sheet.proofs.tokens.read.Goals as goal
 
 pub returns-then-digit_at : goal.returns-then-digit_at

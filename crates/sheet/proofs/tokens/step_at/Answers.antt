@@ -7,7 +7,6 @@ use Rattle.sheet.specs.Tokens.{token_of}
 use Rattle.sheet.specs.inner.Steps.{front}
 use Rattle.sheet.proofs.Places.{up_to_take, place_fits}
 use Rattle.sheet.proofs.Steps.{step_past, step_in}
-use borrow.Author.Rules.{rules}
 use Rattle.sheet.proofs.tokens.step_at.Goals as goal
 
 pub returns-then-line-at : goal.returns-then-line-at

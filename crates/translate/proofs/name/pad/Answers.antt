@@ -2,7 +2,6 @@
 use mathlib.Core.Path.{◌∙◌, ap}
 use Prim.Native.Nat.{ℕ}
 use lib.ListN.{replicate}
-use borrow.Author.Rules.{rules}
 use Rattle.translate.proofs.NamesWritten.{pad_is}
 use Rattle.translate.proofs.name.pad.Goals as goal
 

@@ -1,12 +1,8 @@
 -- The front is spaces, one more with each turn.
 use Prim.Native.Nat.{◌-◌, ◌≤◌}
-use mathlib.Core.Path.{◌≡◌, refl, ◌∙◌}
+use mathlib.Core.Path.{◌≡◌}
 use mathlib.Core.List.{◌++◌}
-use native.Mathlib.Omega.{arith}
-use lib.ListN.{length, drop, replicate, length-set}
-use borrow.Author.Fill.{fill_more}
-use borrow.Author.Rules.{rules}
-use Rattle.translate.proofs.NamesWritten.{fill_all}
+use lib.ListN.{length, drop, replicate}
 use Rattle.translate.proofs.name.spaces.Given as goal
 
 abbrev pub invariant-loop-i : goal.invariant-loop-i

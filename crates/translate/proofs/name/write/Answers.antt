@@ -1,12 +1,8 @@
 -- The names so far stand at the front, and each turn puts one more behind them.
-use Prim.Native.Nat.{◌+◌, ◌-◌, ◌*◌, ◌≤◌}
-use mathlib.Core.Path.{◌≡◌, refl, ◌∙◌}
+use Prim.Native.Nat.{◌+◌, ◌-◌, ◌*◌}
+use mathlib.Core.Path.{refl, ◌∙◌}
 use native.Mathlib.Omega.{arith}
-use lib.ListN.{length, take}
-use borrow.Author.Rules.{rules}
 use borrow.Rule.Slice.PartMut.{mid_len, same_len_mid}
-use Rattle.meaning.specs.Lists.{name_bytes}
-use Rattle.translate.specs.Translate.{filled}
 use Rattle.translate.proofs.NamesWritten.{names_none, names_next, names_done}
 use Rattle.translate.proofs.name.write.Goals as goal
 

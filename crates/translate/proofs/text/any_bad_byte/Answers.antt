@@ -1,10 +1,6 @@
 -- The answer is that of the bytes from i on, until a bad one or the end decides.
-use Prim.Native.Nat.{◌-◌, ◌≤◌}
-use mathlib.Core.Path.{◌≡◌, refl, sym, ◌∙◌}
+use mathlib.Core.Path.{refl, sym, ◌∙◌}
 use native.Mathlib.Omega.{arith}
-use lib.ListN.{length, drop}
-use borrow.Author.Rules.{rules}
-use Rattle.meaning.specs.Grounds.{any_bad_byte}
 use Rattle.translate.proofs.BadBytes.{bad_here, bad_later, bad_none}
 use Rattle.translate.proofs.text.any_bad_byte.Goals as goal
 

@@ -1,6 +1,5 @@
 -- Each test decides its part of `bad_text`, and the tests before it leave theirs false.
 use mathlib.Core.Path.{sym, ◌∙◌}
-use borrow.Author.Rules.{rules}
 use Rattle.translate.proofs.BadBytes.{text_empty, text_long, text_bytes, text_end}
 use Rattle.translate.proofs.text.bad_text.Goals as goal
 

@@ -1,7 +1,6 @@
 -- A short line, or a byte that is not that of the mark, is no first line; behind the mark the version decides.
 use mathlib.Core.Path.{sym, ◌∙◌}
 use borrow.Author.Tests.{ne_eqb}
-use borrow.Author.Rules.{rules}
 use Rattle.translate.proofs.VersionLine.{first_short, first_other, first_marked}
 use Rattle.translate.proofs.text.first_line.Goals as goal
 

@@ -1,6 +1,5 @@
 -- What `number` says of the bytes, then the limit, then the last byte decide.
 use mathlib.Core.Path.{sym, ◌∙◌}
-use borrow.Author.Rules.{rules}
 use Rattle.translate.proofs.VersionLine.{version_none, number_some, version_is, version_high, version_unit}
 use Rattle.translate.proofs.text.version.Goals as goal
 

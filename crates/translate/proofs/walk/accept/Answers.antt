@@ -4,7 +4,6 @@ use native.Mathlib.Omega.{arith}
 use mathlib.Core.Path.{sym}
 use lib.ListN.{length-take}
 use lib.Seq.{length-take-le}
-use borrow.Author.Rules.{rules}
 use Rattle.lines.proofs.HeldRoom.{room}
 use Rattle.translate.proofs.AcceptCode.{accepts}
 use Rattle.translate.proofs.walk.accept.Goals as goal

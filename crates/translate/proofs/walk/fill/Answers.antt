@@ -1,5 +1,4 @@
 -- The walk's answer decides: a fault, no quantity declared, or the fronts of what is held.
-use borrow.Author.Rules.{rules}
 use Rattle.translate.proofs.AcceptCode.{walk_refused, walk_standing, walk_undeclared, walk_accepted}
 use Rattle.translate.proofs.walk.fill.Goals as goal
 

@@ -1,11 +1,7 @@
 -- The walk through the lines keeps `Walking`: a line without a fault is one step, a fault decides, and past the last line the sheet held is the outcome.
-use mathlib.Core.Path.{sym, ◌∙◌}
-use native.Mathlib.Omega.{arith}
 use Prim.Native.Nat.{◌+◌, ◌-◌}
 use lib.ListN.{length}
-use borrow.Author.Rules.{rules}
-use Rattle.sheet.proofs.Places.{place_fits}
-use Rattle.translate.proofs.WalkCode.{Walking, walk_start, walk_done, walk_fault, walk_next}
+use Rattle.translate.proofs.WalkCode.{Walking}
 use Rattle.translate.proofs.walk.read_lines.Given as goal
 
 abbrev pub invariant-loop-at : goal.invariant-loop-at

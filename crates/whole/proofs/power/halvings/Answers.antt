@@ -2,7 +2,6 @@
 use lib.IntN.{pos, ◌-ℤ◌}
 use lib.Signed.{◌≤ℤ◌}
 use lib.Count.{leading_le}
-use borrow.Author.Rules.{rules}
 use Rattle.whole.proofs.Kit.{ints, at, minus, Holds, near_difference, cast, cast_is}
 use Rattle.whole.proofs.Powers.{halved}
 use Rattle.whole.proofs.power.halvings.Goals as goal

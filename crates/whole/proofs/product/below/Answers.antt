@@ -2,7 +2,6 @@
 use mathlib.Core.Path.{sym, ap₂, ◌∙◌}
 use lib.IntN.{ℤ, ◌*ℤ◌}
 use lib.Signed.{lt_z}
-use borrow.Author.Rules.{rules}
 use Rattle.whole.specs.inner.Held.{held}
 use Rattle.whole.proofs.Kit.{at, rd, call2, Holds}
 use Rattle.whole.proofs.Held.{held_lt}

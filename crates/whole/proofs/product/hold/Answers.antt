@@ -1,6 +1,5 @@
 -- The definition is the larger of the one bound and the smaller of the other and the number.
 use mathlib.Core.Path.{refl}
-use borrow.Author.Rules.{rules}
 use Rattle.whole.specs.Numbers.{min_z, max_z}
 use Rattle.whole.specs.inner.Held.{held}
 use Rattle.whole.proofs.Kit.{rd, call2}

@@ -2,7 +2,6 @@
 use mathlib.Core.Path.{ap}
 use lib.IntN.{ℤ, pos, negsuc}
 use lib.Signed.{le_z}
-use borrow.Author.Rules.{rules}
 use Rattle.whole.proofs.Kit.{rd, and_yes, and_no}
 use Rattle.whole.proofs.product.small.Goals as goal
 

@@ -1,7 +1,6 @@
 -- A small factor leaves the plain product within 64 bits, and of two that are not small only the signs count.
 use mathlib.Core.Path.{sym, ap, ◌∙◌}
 use lib.IntN.{ℤ, ◌*ℤ◌}
-use borrow.Author.Rules.{rules}
 use Rattle.whole.specs.inner.Held.{held}
 use Rattle.whole.proofs.Kit.{at, rd, got, call2, Holds}
 use Rattle.whole.proofs.Products.{first_product, second_product}

@@ -3,7 +3,6 @@ use mathlib.Core.Path.{ap₂, ◌∙◌}
 use mathlib.Core.Logic.{⊎_elim}
 use lib.IntN.{pos}
 use lib.Signed.{◌<ℤ◌}
-use borrow.Author.Rules.{rules}
 use Rattle.whole.specs.Numbers.{ceil_q}
 use Rattle.whole.proofs.Kit.{ints, rd, side}
 use Rattle.whole.proofs.Quotients.{ceiling_turned, turn, read, turned_asks}

@@ -1,6 +1,5 @@
 -- A step does not end below the root rounded down, so one more is above the root.
 use native.Mathlib.Omega.{arith}
-use borrow.Author.Rules.{rules}
 use Rattle.whole.proofs.Newton.{sum_fits, above_root}
 use Rattle.whole.proofs.root.above.Goals as goal
 

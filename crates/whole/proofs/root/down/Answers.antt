@@ -2,7 +2,6 @@
 use mathlib.Core.Path.{◌≡◌, sym, subst}
 use native.Mathlib.Omega.{arith}
 use lib.IntN.{pos, nat_abs}
-use borrow.Author.Rules.{rules}
 use mir.Syntax.{w64}
 use mir.Val.{to_z}
 use mir.Facts.{to_z_pos}

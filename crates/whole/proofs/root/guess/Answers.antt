@@ -1,6 +1,5 @@
 -- What the square is too large, by twice the power, is less than the number itself, so the rest is above 0.
 use native.Mathlib.Omega.{arith}
-use borrow.Author.Rules.{rules}
 use Rattle.whole.proofs.Newton.{above_fits, excess, start}
 use Rattle.whole.proofs.root.guess.Goals as goal
 

@@ -1,6 +1,6 @@
 -- Every step ends at the root rounded down or above it, and each one from above falls; where the square is not above n, it is the root.
 use native.Mathlib.Omega.{arith}
-use Rattle.whole.proofs.Newton.{Reaches, square_fits, step_reaches, again, falls, last}
+use Rattle.whole.proofs.Newton.{square_fits, step_reaches, again, falls, last}
 use Rattle.whole.proofs.root.root.Goals as goal
 
 pub step-r-requires : goal.step-r-requires

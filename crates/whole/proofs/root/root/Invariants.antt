@@ -1,6 +1,5 @@
 -- Every step ends at the root rounded down or above it, and each one from above falls; where the square is not above n, it is the root.
-use native.Mathlib.Omega.{arith}
-use Rattle.whole.proofs.Newton.{Reaches, square_fits, step_reaches, again, falls, last}
+use Rattle.whole.proofs.Newton.{Reaches}
 use Rattle.whole.proofs.root.root.Given as goal
 
 abbrev pub invariant-loop-r : goal.invariant-loop-r

@@ -1,6 +1,5 @@
 -- Neither the number nor the quotient is large, so their sum fits.
 use native.Mathlib.Omega.{arith}
-use borrow.Author.Rules.{rules}
 use Rattle.whole.proofs.Newton.{step_fits}
 use Rattle.whole.proofs.root.step.Goals as goal
 

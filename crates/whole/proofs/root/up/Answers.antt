@@ -2,7 +2,6 @@
 use mathlib.Core.Path.{◌≡◌, sym, ap, subst, ◌∙◌}
 use Prim.Native.Nat.{◌≤◌}
 use lib.IntN.{pos, nat_abs, ◌+ℤ◌, ◌*ℤ◌}
-use borrow.Author.Rules.{rules}
 use Rattle.whole.specs.Numbers.{root_down, root_up}
 use Rattle.whole.specs.inner.Held.{Is}
 use Rattle.whole.proofs.Kit.{ints, at, plus, apart, nat_abs_is, abs_prod, fits_abs, Holds, rd, rn, lit, sum, prod}

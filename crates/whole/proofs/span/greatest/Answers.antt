@@ -1,5 +1,4 @@
 -- The larger of the larger of each pair.
-use borrow.Author.Rules.{rules}
 use Rattle.whole.specs.Numbers.{max_z}
 use Rattle.whole.proofs.Kit.{rd, call2}
 use Rattle.whole.proofs.span.greatest.Goals as goal

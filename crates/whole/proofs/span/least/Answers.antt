@@ -1,5 +1,4 @@
 -- The smaller of the smaller of each pair.
-use borrow.Author.Rules.{rules}
 use Rattle.whole.specs.Numbers.{min_z}
 use Rattle.whole.proofs.Kit.{rd, call2}
 use Rattle.whole.proofs.span.least.Goals as goal

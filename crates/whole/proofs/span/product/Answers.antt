@@ -1,5 +1,4 @@
 -- Holding goes through the least and the greatest.
-use borrow.Author.Rules.{rules}
 use Rattle.whole.proofs.Calls.{times_is, product_low, product_high}
 use Rattle.whole.proofs.Spans.{ends_is}
 use Rattle.whole.proofs.span.product.Goals as goal

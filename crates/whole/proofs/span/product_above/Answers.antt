@@ -1,6 +1,5 @@
 -- The product keeps the order in both factors.
 use mathlib.Core.Path.{sym, ap, ◌∙◌}
-use borrow.Author.Rules.{rules}
 use Rattle.whole.specs.inner.Held.{held_span}
 use Rattle.whole.proofs.Calls.{times_is}
 use Rattle.whole.proofs.Spans.{ends_is, product_above_lem}

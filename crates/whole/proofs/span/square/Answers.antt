@@ -1,6 +1,5 @@
 -- Holding goes through the smaller and the larger, and leaves 0.
 use mathlib.Core.Path.{sym, ◌∙◌}
-use borrow.Author.Rules.{rules}
 use Rattle.whole.proofs.Calls.{times_is, square_high, square_low, square_zero}
 use Rattle.whole.proofs.Spans.{ends_is}
 use Rattle.whole.proofs.span.square.Goals as goal

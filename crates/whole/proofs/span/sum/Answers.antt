@@ -1,6 +1,5 @@
 -- The ends are near, so each end of the sum is exact.
 use lib.IntN.{◌+ℤ◌}
-use borrow.Author.Rules.{rules}
 use Rattle.whole.proofs.Kit.{rn, call2}
 use Rattle.whole.proofs.Spans.{ends_is}
 use Rattle.whole.proofs.span.sum.Goals as goal
