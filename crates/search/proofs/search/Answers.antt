@@ -44,13 +44,13 @@ returns-then-waiting-eq0 c =
     let f = frame c.requires _ c.copy.ensures in
     let h = c.loop-left.invariant.0 in
     ends c.requires _ c.copy.ensures _ _ _ _ _ (put_rest f h _ c.sweep-swept.auto.b)
-    (none_is f (held_one f c.if-left-eq0.false h) c.if-waiting-eq0.true (swept Empty _ (cc) c.sweep-swept.ensures.says))
+    (none_is f (held_one f c.if-left-eq0.false h) c.if-waiting-eq0.true (swept Empty _ (search rules) c.sweep-swept.ensures.says))
     c.after-then-waiting-eq0.ensures c.loop-left.invariant.1
 
 pub loop-left-preserved-in-Empty : goal.loop-left-preserved-in-Empty
 loop-left-preserved-in-Empty c =
     let f = frame c.requires _ c.copy.ensures in (
-      held_taken f (held_one f c.if-left-eq0.false c.loop-left.invariant.0) _ c.sweep-swept.auto.b c.if-waiting-eq0.false (swept Empty _ (cc) c.sweep-swept.ensures.says),
+      held_taken f (held_one f c.if-left-eq0.false c.loop-left.invariant.0) _ c.sweep-swept.auto.b c.if-waiting-eq0.false (swept Empty _ (search rules) c.sweep-swept.ensures.says),
       c.loop-left.invariant.1,
       omega arith,
     )
@@ -58,7 +58,7 @@ loop-left-preserved-in-Empty c =
 pub loop-left-preserved-in-Changed : goal.loop-left-preserved-in-Changed
 loop-left-preserved-in-Changed c =
     let f = frame c.requires _ c.copy.ensures in (
-      held_changed f (held_one f c.if-left-eq0.false c.loop-left.invariant.0) _ c.sweep-swept.auto.b (swept Changed _ (cc) c.sweep-swept.ensures.says),
+      held_changed f (held_one f c.if-left-eq0.false c.loop-left.invariant.0) _ c.sweep-swept.auto.b (swept Changed _ (search rules) c.sweep-swept.ensures.says),
       c.loop-left.invariant.1,
       omega arith,
     )
@@ -66,7 +66,7 @@ loop-left-preserved-in-Changed c =
 pub returns-in_default : goal.returns-in_default
 returns-in_default c =
     let f = frame c.requires _ c.copy.ensures in
-    let told = swept Same _ (cc) c.sweep-swept.ensures.says in
+    let told = swept Same _ (search rules) c.sweep-swept.ensures.says in
     let t = settled f c.if-left-eq0.false c.loop-left.invariant.0 _ c.sweep-swept.auto.b (sweep_same _ _ _ _ (sym told)) told in
     ends c.requires _ c.copy.ensures _ _ _ _ _ t.held.rest
     (found_is f t.held t.swept (sym c.in_default.is ∙ chosen (here_part f t.held) c.lowest_open.ensures))
@@ -75,14 +75,14 @@ returns-in_default c =
 pub slice_bounds-split-end : goal.slice_bounds-split-end
 slice_bounds-split-end c =
     let f = frame c.requires _ c.copy.ensures in
-    let told = swept Same _ (cc) c.sweep-swept.ensures.says in
+    let told = swept Same _ (search rules) c.sweep-swept.ensures.says in
     let t = settled f c.if-left-eq0.false c.loop-left.invariant.0 _ c.sweep-swept.auto.b (sweep_same _ _ _ _ (sym told)) told in
     next_in f t.held t.swept c.in-At.q (sym c.in-At.is ∙ chosen (here_part f t.held) c.lowest_open.ensures)
 
 pub split-requires : goal.split-requires
 split-requires c =
     let f = frame c.requires _ c.copy.ensures in
-    let told = swept Same _ (cc) c.sweep-swept.ensures.says in
+    let told = swept Same _ (search rules) c.sweep-swept.ensures.says in
     let t = settled f c.if-left-eq0.false c.loop-left.invariant.0 _ c.sweep-swept.auto.b (sweep_same _ _ _ _ (sym told)) told in
     let p = here_part f t.held in
     let open_at = sym c.in-At.is ∙ chosen p c.lowest_open.ensures in
@@ -91,7 +91,7 @@ split-requires c =
 pub loop-left-preserved : goal.loop-left-preserved
 loop-left-preserved c =
     let f = frame c.requires _ c.copy.ensures in
-    let told = swept Same _ (cc) c.sweep-swept.ensures.says in
+    let told = swept Same _ (search rules) c.sweep-swept.ensures.says in
     let t = settled f c.if-left-eq0.false c.loop-left.invariant.0 _ c.sweep-swept.auto.b (sweep_same _ _ _ _ (sym told)) told in
     let open_at = sym c.in-At.is ∙ chosen (here_part f t.held) c.lowest_open.ensures in
     let first = first_is f t.held t.swept _ open_at in (
