@@ -9,6 +9,7 @@ use Rattle.problem.specs.Problem.{Box, quantities}
 use Rattle.narrow.specs.Cuts.{Swept}
 use Rattle.narrow.specs.inner.Done.{swept_as}
 use Rattle.narrow.specs.declared.Status.{Status}
+use Rattle.narrow.specs.declared.Status.TheVariants.{Empty, Changed, Same}
 use Rattle.narrow.proofs.SweepLaws.{sweep_same}
 use Rattle.narrow.specs.Parts.{Part}
 use Rattle.search.specs.Search.{lower_part, upper_part, lowest}
@@ -18,8 +19,8 @@ use Rattle.search.proofs.Searching.{part_count, part_fine, part_placed, part_spl
 use Rattle.search.proofs.search.Goals as goal
 
 -- what a sweep's status says of it
-swept : {st st' : Status} (ys : List ℤ) {z : Swept} → st ≡ st' → swept_as st ys ≡ z → swept_as st' ys ≡ z
-swept ys e says = ap (λ (x : Status). swept_as x ys) (sym e) ∙ says
+swept : {st : Status} (st' : Status) (ys : List ℤ) {z : Swept} → st ≡ st' → swept_as st ys ≡ z → swept_as st' ys ≡ z
+swept st' ys e says = ap (λ (x : Status). swept_as x ys) (sym e) ∙ says
 
 -- the choice among the quantities of a part of the starting box is the choice among all
 chosen : {rs b : Box} {o : Open} → Part (quantities rs) rs b → o ≡ lowest (quantities b) b → o ≡ lowest (quantities rs) b
@@ -43,13 +44,13 @@ returns-then-waiting-eq0 c =
     let f = frame c.requires _ c.copy.ensures in
     let h = c.loop-left.invariant.0 in
     ends c.requires _ c.copy.ensures _ _ _ _ _ (put_rest f h _ c.sweep-swept.auto.b)
-    (none_is f (held_one f c.if-left-eq0.false h) c.if-waiting-eq0.true (swept _ c.in-Empty.is c.sweep-swept.ensures.says))
+    (none_is f (held_one f c.if-left-eq0.false h) c.if-waiting-eq0.true (swept Empty _ (search rules) c.sweep-swept.ensures.says))
     c.after-then-waiting-eq0.ensures c.loop-left.invariant.1
 
 pub loop-left-preserved-in-Empty : goal.loop-left-preserved-in-Empty
 loop-left-preserved-in-Empty c =
     let f = frame c.requires _ c.copy.ensures in (
-      held_taken f (held_one f c.if-left-eq0.false c.loop-left.invariant.0) _ c.sweep-swept.auto.b c.if-waiting-eq0.false (swept _ c.in-Empty.is c.sweep-swept.ensures.says),
+      held_taken f (held_one f c.if-left-eq0.false c.loop-left.invariant.0) _ c.sweep-swept.auto.b c.if-waiting-eq0.false (swept Empty _ (search rules) c.sweep-swept.ensures.says),
       c.loop-left.invariant.1,
       omega arith,
     )
@@ -57,7 +58,7 @@ loop-left-preserved-in-Empty c =
 pub loop-left-preserved-in-Changed : goal.loop-left-preserved-in-Changed
 loop-left-preserved-in-Changed c =
     let f = frame c.requires _ c.copy.ensures in (
-      held_changed f (held_one f c.if-left-eq0.false c.loop-left.invariant.0) _ c.sweep-swept.auto.b (swept _ c.in-Changed.is c.sweep-swept.ensures.says),
+      held_changed f (held_one f c.if-left-eq0.false c.loop-left.invariant.0) _ c.sweep-swept.auto.b (swept Changed _ (search rules) c.sweep-swept.ensures.says),
       c.loop-left.invariant.1,
       omega arith,
     )
@@ -65,7 +66,7 @@ loop-left-preserved-in-Changed c =
 pub returns-in_default : goal.returns-in_default
 returns-in_default c =
     let f = frame c.requires _ c.copy.ensures in
-    let told = swept _ c.in-Same.is c.sweep-swept.ensures.says in
+    let told = swept Same _ (search rules) c.sweep-swept.ensures.says in
     let t = settled f c.if-left-eq0.false c.loop-left.invariant.0 _ c.sweep-swept.auto.b (sweep_same _ _ _ _ (sym told)) told in
     ends c.requires _ c.copy.ensures _ _ _ _ _ t.held.rest
     (found_is f t.held t.swept (sym c.in_default.is ∙ chosen (here_part f t.held) c.lowest_open.ensures))
@@ -74,14 +75,14 @@ returns-in_default c =
 pub slice_bounds-split-end : goal.slice_bounds-split-end
 slice_bounds-split-end c =
     let f = frame c.requires _ c.copy.ensures in
-    let told = swept _ c.in-Same.is c.sweep-swept.ensures.says in
+    let told = swept Same _ (search rules) c.sweep-swept.ensures.says in
     let t = settled f c.if-left-eq0.false c.loop-left.invariant.0 _ c.sweep-swept.auto.b (sweep_same _ _ _ _ (sym told)) told in
     next_in f t.held t.swept c.in-At.q (sym c.in-At.is ∙ chosen (here_part f t.held) c.lowest_open.ensures)
 
 pub split-requires : goal.split-requires
 split-requires c =
     let f = frame c.requires _ c.copy.ensures in
-    let told = swept _ c.in-Same.is c.sweep-swept.ensures.says in
+    let told = swept Same _ (search rules) c.sweep-swept.ensures.says in
     let t = settled f c.if-left-eq0.false c.loop-left.invariant.0 _ c.sweep-swept.auto.b (sweep_same _ _ _ _ (sym told)) told in
     let p = here_part f t.held in
     let open_at = sym c.in-At.is ∙ chosen p c.lowest_open.ensures in
@@ -90,7 +91,7 @@ split-requires c =
 pub loop-left-preserved : goal.loop-left-preserved
 loop-left-preserved c =
     let f = frame c.requires _ c.copy.ensures in
-    let told = swept _ c.in-Same.is c.sweep-swept.ensures.says in
+    let told = swept Same _ (search rules) c.sweep-swept.ensures.says in
     let t = settled f c.if-left-eq0.false c.loop-left.invariant.0 _ c.sweep-swept.auto.b (sweep_same _ _ _ _ (sym told)) told in
     let open_at = sym c.in-At.is ∙ chosen (here_part f t.held) c.lowest_open.ensures in
     let first = first_is f t.held t.swept _ open_at in (
