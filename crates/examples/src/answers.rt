@@ -7,10 +7,10 @@ use std::rt::Files;
 const SPACE: usize = 32;
 
 // Reads the file with a name that is in the front of a text; gives its length.
-fn read(rt: &impl Files, name: &[u8], n: usize, room: &mut [u8]) -> io::Result<usize> {
+fn read(rt: &impl Files, name: &[u8], n: usize, room: &mut [u8]) -> usize {
     let zero: usize = 0;
     if name.len() < n {
-        return Ok(0);
+        return 0;
     }
     cases::table::load(rt, &name[zero..n], room)
 }
@@ -23,12 +23,12 @@ fn lay(
     named: bool,
     room: &mut [u8],
     name: &mut [u8],
-) -> io::Result<usize> {
+) -> usize {
     if named {
         let n = unfold::unfold(table, from, name);
         return read(rt, name, n, room);
     }
-    Ok(unfold::unfold(table, from, room))
+    unfold::unfold(table, from, room)
 }
 
 // Where the first space of a text stands, or its length.
@@ -84,14 +84,14 @@ fn agrees(
     room: &mut [u8],
     other: &mut [u8],
     out: &mut [u8; 4096],
-) -> io::Result<bool> {
-    let n = lay(rt, table, from, named, room, other)?;
+) -> bool {
+    let n = lay(rt, table, from, named, room, other);
     let length = answered(room, n, true, out);
     let m = unfold::unfold(table, text::behind_bar(table, from), other);
     if length != m {
-        return Ok(false);
+        return false;
     }
-    Ok(text::same(out, length, other, 0))
+    text::same(out, length, other, 0)
 }
 
 // How many cases of a table agree.
@@ -107,7 +107,7 @@ fn agreements(
     let mut agreed: usize = 0;
     for i in 0..cases {
         let from = text::line_start(table, i);
-        let right = agrees(rt, table, from, named, room, other, out)?;
+        let right = agrees(rt, table, from, named, room, other, out);
         agreed = std::num::wrapping_add_usize(agreed, report::counted(rt, right, i)?);
     }
     Ok(agreed)

@@ -13,7 +13,7 @@ use std::rt::Files;
 // The refusals of sheets, with lists of the full sizes and with longer ones.
 fn sheet_refusals(rt: &(impl Files + Print)) -> io::Result<()> {
     let mut buffer = [0u8; 65536];
-    let n = cases::table::load(rt, b"grounds.txt", &mut buffer)?;
+    let n = cases::table::load(rt, b"grounds.txt", &mut buffer);
     grounds::compare(rt, b"refusals of sheets", &buffer[..n], 0)?;
     grounds::compare(rt, b"refusals with longer lists", &buffer[..n], 7)
 }
@@ -21,14 +21,14 @@ fn sheet_refusals(rt: &(impl Files + Print)) -> io::Result<()> {
 // The lines of a text.
 fn text_lines(rt: &(impl Files + Print)) -> io::Result<()> {
     let mut buffer = [0u8; 65536];
-    let n = cases::table::load(rt, b"lines.txt", &mut buffer)?;
+    let n = cases::table::load(rt, b"lines.txt", &mut buffer);
     lines::compare(rt, &buffer[..n])
 }
 
 // The lists of sheets.
 fn pinned_lists(rt: &(impl Files + Print)) -> io::Result<()> {
     let mut buffer = [0u8; 65536];
-    let n = cases::table::load(rt, b"pins.txt", &mut buffer)?;
+    let n = cases::table::load(rt, b"pins.txt", &mut buffer);
     pins::compare(rt, &buffer[..n])
 }
 
