@@ -215,3 +215,17 @@ module _ {sweep : Box → Swept} {choose : Box → Open} {n lead w : ℕ} {start
   -- one sweep of those left
   pub held_one : {o : Outcome} {l : List ℤ} {k s : ℕ} → (k ≡ 0 → ⊥) → Held sweep choose n lead w start o l₀ l k s → Held sweep choose n lead w start o l₀ l (suc (k - 1)) s
   held_one {o} {l} {k} {s} ne h = let z : k ≡ suc (k - 1) = omega arith in subst (λ (m : ℕ). Held sweep choose n lead w start o l₀ l m s) z h
+
+-- a sweep changed nothing: the box is still in hand, and one of the sweeps left is for what is chosen now
+pub record Settled (sweep : Box → Swept) (choose : Box → Open) (n lead w : ℕ) (start : Box) (o : Outcome) (l₀ l : List ℤ) (k s : ℕ) : Type 0 where
+  pub held : Held sweep choose n lead w start o l₀ l (suc k) s
+  pub swept : sweep (mid_of (s * w) (s * w + w - s * w) l) ≡ unchanged (mid_of (s * w) (s * w + w - s * w) l)
+
+pub settled : {sweep : Box → Swept} {choose : Box → Open} {n lead w : ℕ} {start : Box} {o : Outcome} {l₀ l : List ℤ} {k s : ℕ}
+    → Frame sweep choose n lead w start l₀ → (k ≡ 0 → ⊥) → Held sweep choose n lead w start o l₀ l k s
+    → (ys : List ℤ) → length ys ≡ length (mid_of (s * w) (s * w + w - s * w) l) → ys ≡ mid_of (s * w) (s * w + w - s * w) l → unchanged ys ≡ sweep (mid_of (s * w) (s * w + w - s * w) l)
+    → Settled sweep choose n lead w start o l₀ (put_mid (s * w) (s * w + w - s * w) l ys) (k - 1) s
+settled {sweep} f ne h ys kept was told =
+    let one = held_one f ne h in
+    let here = same_here f one ys kept was in
+    record { held = held_same f one ys kept was; swept = ap sweep here ∙ sym told ∙ ap unchanged (was ∙ sym here) }

@@ -1,5 +1,5 @@
 -- Demand 2: what none, found and stopped mean for the problem, and what the count of sweeps is.
-use Rattle.std.specs.Prelude.{◌≡◌, List, ◌⊎◌, ℕ, ◌-◌, ◌≤◌, ℤ, pos, get_or}
+use Rattle.std.specs.Prelude.{◌≡◌, List, ◌⊎◌, ℕ, ◌≤◌, ℤ, pos, get_or}
 use Rattle.whole.specs.Ranges.{Point}
 use Rattle.problem.specs.Problem.{quantities, Problem, Satisfies}
 use Rattle.problem.specs.Order.{Before}
