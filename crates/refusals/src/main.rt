@@ -3,7 +3,7 @@
 #![tactic(auto)]
 
 mod grounds;
-mod lines;
+mod line_trials;
 mod pins;
 mod translating;
 
@@ -22,7 +22,7 @@ fn sheet_refusals(rt: &(impl Files + Print)) -> io::Result<()> {
 fn text_lines(rt: &(impl Files + Print)) -> io::Result<()> {
     let mut buffer = [0u8; 65536];
     let n = cases::table::load(rt, b"lines.txt", &mut buffer);
-    lines::compare(rt, &buffer[..n])
+    line_trials::compare(rt, &buffer[..n])
 }
 
 // The lists of sheets.
