@@ -1,5 +1,5 @@
-// The calls for C: each says in numbers what the call of the same name answers, and asks nothing of its caller. The static library `bindings_c`
-// exports them: a library exports nothing itself.
+// The calls for C: each says in numbers what the call of the same name answers, and asks nothing of its caller. The archive for C is
+// made of the static library `bindings_c`, whose exports call these.
 #![tactic(auto)]
 
 ghost use Rattle.std.specs.Prelude.{◌≡◌};

@@ -2,7 +2,7 @@
 use mathlib.Core.Path.{◌∙◌}
 use Rattle.whole.proofs.Kit.{index, rd}
 use Rattle.search.proofs.Judged.{ready, leading_cast, leading_count, leading_led}
-use Rattle.search.proofs.Solving.{read_judged, budget_sign, budget_is, leads, ready_with, room_in, room_long, solves}
+use Rattle.search.proofs.Solving.{refuses, read_judged, budget_sign, budget_is, leads, ready_with, room_in, room_long, solves}
 use Rattle.search.proofs.solve.Goals as goal
 
 pub overflow_cast-leading : goal.overflow_cast-leading
@@ -39,6 +39,9 @@ pub slice_bounds-clear-end-2 : goal.slice_bounds-clear-end-2
 slice_bounds-clear-end-2 c =
     let sound = read_judged _ _ _ _ _ _ _ _ _ _ _ (rd c.ranges.leading) (rd c.ranges.budget) c.judge-judged.ensures ∙ c.in_default.is in
     room_long _ _ _ _ _ _ _ _ sound _ (leading_count (leads _ _ _ _ _ _ _ _ sound c.ranges.leading)) c.search-solved.new.work c.search-solved.auto.work _ c.needed-needed.ensures
+
+pub returns-in-Refused : goal.returns-in-Refused
+returns-in-Refused c = refuses _ _ _ _ _ _ _ _ _ _ (read_judged _ _ _ _ _ _ _ _ _ _ _ (rd c.ranges.leading) (rd c.ranges.budget) c.judge-judged.ensures ∙ c.in-Refused.is) c.after.ensures
 
 pub returns : goal.returns
 returns c =
