@@ -9,7 +9,8 @@
  * refusals of sheets mean, docs/PROBLEMS.md those of problems.
  *
  * A call keeps nothing between calls and uses no heap, but stack, which no proof
- * bounds. Measured with the older kit rattle-kit-5b, and then rounded up:
+ * bounds. Measured with the older kit rattle-kit-5b, and then rounded up (built by
+ * rattle-kit-13f, no sheet of crates/examples/data needed more):
  *
  *   ularimpong_solve, ularimpong_line_span    below 2 KiB; leave it 32 KiB
  *   ularimpong_translate                      68 KiB; leave it 128 KiB
