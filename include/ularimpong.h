@@ -10,9 +10,10 @@
  *
  * A call keeps nothing between calls and uses no heap, but stack, which no proof
  * bounds. Measured with the older kit rattle-kit-5b, and then rounded up (built by
- * rattle-kit-13f, no sheet of crates/examples/data needed more):
+ * rattle-kit-13f, no sheet of crates/examples/data needed more); of ularimpong_solve
+ * with rattle-kit-13f:
  *
- *   ularimpong_solve, ularimpong_line_span    below 2 KiB; leave it 32 KiB
+ *   ularimpong_solve, ularimpong_line_span    below 6 KiB; leave it 32 KiB
  *   ularimpong_translate                      68 KiB; leave it 128 KiB
  *   ularimpong_answer                         170 KiB; leave it 256 KiB
  *

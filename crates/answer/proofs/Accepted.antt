@@ -9,13 +9,12 @@ use borrow.Author.Tests.{le-ltb}
 use Rattle.meaning.specs.Grounds.{Outcome, refused, read, outcome_of}
 use Rattle.meaning.specs.Grounds as sheet
 use Rattle.translate.specs.Translate.{judged, result_of, Translates}
-use Rattle.meaning.specs.declared.Refusal.{Refusal}
 use Rattle.translate.specs.declared.Counts.{Counts}
-use Rattle.translate.specs.declared.Translated.{Translated}
-use Rattle.translate.specs.declared.Translated.TheVariants.{Refused}
+use Rattle.std.specs.Prelude.{Result, Ok, Err}
+use Rattle.translate.specs.declared.Refused.{Refused}
 use Rattle.meaning.proofs.FlatLists.{ranges_length, names_length}
 use Rattle.meaning.proofs.Fits.{fits}
-use Rattle.translate.proofs.AcceptedFronts.{Taken}
+use Rattle.translate.proofs.AcceptedFronts.{Taken, taken}
 use Rattle.answer.specs.Output.{refused_line, printed, output_of}
 use Rattle.answer.specs.inner.Reporting.{report_on, Fronts}
 use Rattle.answer.proofs.Reporting.{report_sheet}
@@ -50,13 +49,13 @@ module _ (t : List ℕ) (rs₀ ps₀ ns₀ ls₀ : List ℤ) (bs₀ : List ℕ) 
         le-ltb (length bs₀) 1024 full.names,
       )
 
-  module _ (rs ps ns ls : List ℤ) (bs : List ℕ) (r : Translated) (h : Translates t rs₀ ps₀ ns₀ ls₀ bs₀ rs ps ns ls bs r) where
-    pub refused_output : (g : Refusal) (k n : ℕ) → r ≡ Refused g k → n ≡ sheet.refusal_number g → refused_line n k ≡ output_of t
+  module _ (rs ps ns ls : List ℤ) (bs : List ℕ) (r : Result Counts Refused) (h : Translates t rs₀ ps₀ ns₀ ls₀ bs₀ rs ps ns ls bs r) where
+    pub refused_output : (x : Refused) (n : ℕ) → r ≡ Err x → n ≡ sheet.refusal_number x.refusal → refused_line n x.line ≡ output_of t
     unfolding output_of
-    refused_output g k n e f = ap (λ (m : ℕ). refused_line m k) f ∙ go (outcome_of t) (sym e ∙ h.result ∙ ap result_of all_full)
+    refused_output x n e f = ap (λ (m : ℕ). refused_line m x.line) f ∙ go (outcome_of t) (sym e ∙ h.result ∙ ap result_of all_full)
       where
-        go : (o : Outcome) → Refused g k ≡ result_of o → refused_line (sheet.refusal_number g) k ≡ printed o
-        go (refused g' k') i = let a : g ≡ g' = cc in let b : k ≡ k' = cc in rw (a, b)
+        go : (o : Outcome) → Err x ≡ result_of o → refused_line (sheet.refusal_number x.refusal) x.line ≡ printed o
+        go (refused g k) i = let a : x ≡ record { refusal = g; line = k } = cc in rw a
         go (read s) i = absurd (let z : ◌≡◌ {A = ℕ} 0 1 = cc in omega arith)
 
 -- ---- what the counts come to
@@ -93,3 +92,7 @@ module _ (t : List ℕ) (c : Counts) (rs ps ns ls : List ℤ) (bs : List ℕ) (h
   pub accepted_output : report_on (take (2 * c.quantities) rs) (take (4 * c.primitives) ps) (take c.clauses ns) (take (3 * c.literals) ls) (take (8 * c.declared) bs) ≡ output_of t
   unfolding output_of
   accepted_output = rw (h.ranges, h.primitives, h.lengths, h.literals, h.names) (report_sheet t h.draft h.is ∙ ap printed (sym h.is))
+
+-- the counts of an accepted translation
+pub few_when : {t : List ℕ} {rs₀ ps₀ ns₀ ls₀ : List ℤ} {bs₀ : List ℕ} {rs ps ns ls : List ℤ} {bs : List ℕ} {r : Result Counts Refused} {c : Counts} → Translates t rs₀ ps₀ ns₀ ls₀ bs₀ rs ps ns ls bs r → r ≡ Ok c → Few c
+few_when h e = few _ _ _ _ _ _ _ (taken _ _ _ _ _ _ _ _ _ _ _ _ _ h e)

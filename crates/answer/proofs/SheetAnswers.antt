@@ -34,4 +34,5 @@ module _ (t : List ℕ) (s : Draft) (e : outcome_of t ≡ read s) (ls : List Lin
 pub sheet_answered : SheetAnswer
 sheet_answered t s e lead budget p₀ w₀ p w r solves sound =
     let d = demand3.demand3 t s e in
-    (d.0, d.1, means t s e d.0 d.3 (rw (read_back s) at (sound_right solves sound)))
+    let a = sound_right solves sound in
+    (a.0, a.1, d.0, d.1, means t s e d.0 d.3 (rw (read_back s) at a.2))

@@ -14,11 +14,10 @@ use lib.Seq.{length-take-le}
 use borrow.Author.Tests.{eq-eqb, ltb-true}
 use Rattle.problem.specs.Problem.{Problem, quantities}
 use Rattle.problem.specs.declared.Refusal.TheVariants.{Room}
-use Rattle.problem.specs.declared.Judged.{Judged}
-use Rattle.problem.specs.declared.Judged.TheVariants.{Sound, Refused}
+use Rattle.std.specs.Prelude.{Ok, Err}
 use Rattle.search.specs.Search.{Outcome, stopped, found, none, search_of}
 use Rattle.search.specs.Depth.{room_of}
-use Rattle.search.specs.Solve.{bad_room, judged, lows, answered, result_of, point_of, unless, cleared, Solves}
+use Rattle.search.specs.Solve.{Judged, bad_room, judged, lows, answered, result_of, point_of, unless, cleared, Solves}
 use Rattle.search.specs.Demand2.{Right, point_at}
 use Rattle.search.specs.declared.Answer.TheVariants as answer
 use Rattle.search.proofs.Answered.{sound_right}
@@ -85,7 +84,7 @@ module _ (t : List ℕ) (s : Draft) (e : outcome_of t ≡ read s) where
   room_test =
       ap₂ (λ (b : Bool) (n : ℕ). not b || ltb n (room_of (length s.declared) (range_list_of s))) (eq-eqb (length (desk_point s)) (quantities (range_list_of s)) point_has) (length-replicate 8_192 (pos 0))
 
-  verdict_is : verdict ≡ cond (ltb 8_192 (room_of (length s.declared) (range_list_of s))) (Refused Room) Sound
+  verdict_is : verdict ≡ cond (ltb 8_192 (room_of (length s.declared) (range_list_of s))) (Err Room) (Ok tt)
   unfolding judged
   verdict_is = rw (accepted_sound t s e, accepted_leads t s e, room_test)
 
@@ -100,8 +99,8 @@ module _ (t : List ℕ) (s : Draft) (e : outcome_of t ≡ read s) where
       }
 
   -- ---- the answer
-  module _ (sound : verdict ≡ Sound) where
-    solves : Solves (range_list_of s) (primitive_list_of s) (length_list_of s) (literal_list_of s) (pos (length s.declared)) (pos desk_budget) (desk_point s) desk_work (point_of outcome (desk_point s)) (cleared (room_of (length s.declared) (range_list_of s)) desk_work) (answered desk_budget outcome)
+  module _ (sound : verdict ≡ Ok tt) where
+    solves : Solves (range_list_of s) (primitive_list_of s) (length_list_of s) (literal_list_of s) (pos (length s.declared)) (pos desk_budget) (desk_point s) desk_work (point_of outcome (desk_point s)) (cleared (room_of (length s.declared) (range_list_of s)) desk_work) (Ok (answered desk_budget outcome))
     solves =
         record {
           result = ap₂ (λ (j : Judged) (b : Problem). result_of j desk_budget (search_of b desk_budget)) (sym sound) (sym (read_back s));
@@ -110,7 +109,10 @@ module _ (t : List ℕ) (s : Draft) (e : outcome_of t ≡ read s) where
         }
 
     right : Right (problem_in s) desk_budget (answered desk_budget outcome).answer (answered desk_budget outcome).sweeps (point_of outcome (desk_point s))
-    right = rw (read_back s) at (sound_right solves sound)
+    right =
+        let a = sound_right solves sound in
+        let same : a.0 ≡ answered desk_budget outcome = cc in
+        rw (sym same) (rw (read_back s) at a.2)
 
     says : Means (top_in t) trees s.names (answered desk_budget outcome).answer (point_of outcome (desk_point s))
     says = means t s e trees same right
@@ -164,8 +166,8 @@ module _ (t : List ℕ) (s : Draft) (e : outcome_of t ≡ read s) where
     where
       by : (b : Bool) → ltb 8_192 (room_of (length s.declared) (range_list_of s)) ≡ b → Kind t (solved_of s)
       by true h =
-          let r : verdict ≡ Refused Room = verdict_is ∙ rw h in
+          let r : verdict ≡ Err Room = verdict_is ∙ rw h in
           rw r (inr (inr (inr (record { ground = 7; line = 0; whole = refl; met = inr (wide h) }))))
       by false h =
-          let r : verdict ≡ Sound = verdict_is ∙ rw h in
+          let r : verdict ≡ Ok tt = verdict_is ∙ rw h in
           rw r (kind r outcome refl)

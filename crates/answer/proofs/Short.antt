@@ -5,11 +5,14 @@ use Prim.Native.Nat.{ℕ, ◌+◌, ◌-◌, ◌*◌, ◌≤◌}
 use native.Mathlib.Omega.{arith}
 use lib.IntN.{ℤ, pos}
 use lib.ListN.{length, drop, replicate, length-append}
+use Rattle.std.specs.Prelude.{Result, Ok, Err}
 use Rattle.problem.specs.Grounds.{refusal_number}
+use Rattle.problem.specs.declared.Refusal.{Refusal}
 use Rattle.search.specs.Search.{search_of}
 use Rattle.search.specs.Solve.{judged, result_of, unless, point_of}
 use Rattle.search.specs.declared.Answer.{Answer}
-use Rattle.search.specs.declared.Answer.TheVariants.{None, Found, Stopped, Refused}
+use Rattle.search.specs.declared.Answer.TheVariants.{None, Found, Stopped}
+use Rattle.search.specs.declared.Solved.{Solved}
 use Rattle.meaning.specs.Lists.{range_list, primitive_list, length_list, literals_in, literal_list, letters_of}
 use Rattle.meaning.specs.Draft.{Draft, problem_in}
 use Rattle.meaning.specs.Grounds.{Outcome, refused, read, outcome_of}
@@ -17,7 +20,7 @@ use Rattle.meaning.specs.Grounds as sheet
 use Rattle.meaning.proofs.FlatLists.{padded_length}
 use Rattle.meaning.proofs.Fits.{fits}
 use Rattle.sheet.specs.Text.{bytes}
-use Rattle.answer.specs.Output.{value_line, value_lines, refused_line, count_line, answer_lines, desk_budget, desk_work, desk_point, solved_of, printed, output_of, Answers}
+use Rattle.answer.specs.Output.{value_line, value_lines, refused_line, count_line, answer_lines, solve_lines, desk_budget, desk_work, desk_point, solved_of, printed, output_of, Answers}
 use Rattle.answer.specs.inner.Writing.{Puts}
 use Rattle.answer.proofs.Writing.{puts_front}
 use Rattle.answer.proofs.Decimal.{digits_few, value_few}
@@ -44,7 +47,10 @@ answer_short : (a : Answer) (k : ℕ) (ns : List ℕ) (zs : List ℤ) → length
 answer_short None k ns zs = omega (arith, count_short (bytes "NONE") k)
 answer_short Found k ns zs = omega (arith, length-append (count_line (bytes "FOUND") k) (value_lines ns zs), count_short (bytes "FOUND") k, lines_short ns zs)
 answer_short Stopped k ns zs = omega (arith, length-append (count_line (bytes "STOP") k) (value_lines ns zs), count_short (bytes "STOP") k, lines_short ns zs)
-answer_short (Refused g) k ns zs = omega (arith, refused_short (refusal_number g) 0)
+
+reports_short : (r : Result Solved Refusal) (ns : List ℕ) (zs : List ℤ) → length (solve_lines r ns zs) ≤ 50 + 31 * length ns
+reports_short (Ok s) ns zs = answer_short s.answer s.sweeps ns zs
+reports_short (Err g) ns zs = omega (arith, refused_short (refusal_number g) 0)
 
 solved_short : (s : Draft) → length (solved_of s) ≤ 50 + 31 * length s.names
 unfolding solved_of
@@ -52,7 +58,7 @@ solved_short s =
     let j = judged (range_list (s.declared ++ s.made.ranges)) (primitive_list s.made.primitives) (length_list s.made.clauses) (literal_list (literals_in s.made.clauses)) (pos (length s.declared)) (pos desk_budget) (desk_point s) desk_work in
     let o = search_of (problem_in s) desk_budget in
     let r = result_of j desk_budget o in
-    answer_short r.answer r.sweeps s.names (unless j (point_of o (desk_point s)) (desk_point s))
+    reports_short r s.names (unless j (point_of o (desk_point s)) (desk_point s))
 
 pub output_short : (t : List ℕ) → length (output_of t) ≤ 4096
 unfolding output_of

@@ -42,7 +42,6 @@ abbrev pub rank : Answer → ℕ
 rank answer.None = 0
 rank answer.Found = 1
 rank answer.Stopped = 2
-rank (answer.Refused g) = 3
 
 abbrev pub same_answer : Answer → Answer → Bool
 same_answer a b = eqb (rank a) (rank b)

@@ -1,10 +1,12 @@
 -- What the desk program prints: document 01, "The desk program".
-use Rattle.std.specs.Prelude.{◌≡◌, cond, List, [], ◌∷◌, ◌++◌, ℕ, zero, suc, ◌+◌, ◌/◌, ◌%◌, ltb, ℤ, pos, negsuc, length, drop, replicate}
+use Rattle.std.specs.Prelude.{◌≡◌, cond, List, [], ◌∷◌, ◌++◌, ℕ, zero, suc, ◌+◌, ◌/◌, ◌%◌, ltb, ℤ, pos, negsuc, length, drop, replicate, Result, Ok, Err}
 use Rattle.search.specs.Solve.{judged, result_of, unless, point_of}
 use Rattle.search.specs.Search.{search_of}
 use Rattle.search.specs.declared.Answer.{Answer}
-use Rattle.search.specs.declared.Answer.TheVariants.{None, Found, Stopped, Refused}
+use Rattle.search.specs.declared.Answer.TheVariants.{None, Found, Stopped}
+use Rattle.search.specs.declared.Solved.{Solved}
 use Rattle.problem.specs.Grounds.{refusal_number}
+use Rattle.problem.specs.declared.Refusal.{Refusal}
 use Rattle.meaning.specs.Lists.{range_list, primitive_list, length_list, literals_in, literal_list, letters_of}
 use Rattle.meaning.specs.Draft.{Draft, quantities_in, problem_in}
 use Rattle.meaning.specs.Grounds as sheet
@@ -47,7 +49,11 @@ abbrev pub answer_lines : Answer → ℕ → List ℕ → List ℤ → List ℕ
 answer_lines None sweeps names point = count_line (bytes "NONE") sweeps
 answer_lines Found sweeps names point = count_line (bytes "FOUND") sweeps ++ value_lines names point
 answer_lines Stopped sweeps names point = count_line (bytes "STOP") sweeps ++ value_lines names point
-answer_lines (Refused g) sweeps names point = refused_line (refusal_number g) 0
+
+-- of a solve: a refusal's line, or the answer's
+abbrev pub solve_lines : Result Solved Refusal → List ℕ → List ℤ → List ℕ
+solve_lines (Ok s) names point = answer_lines s.answer s.sweeps names point
+solve_lines (Err g) names point = refused_line (refusal_number g) 0
 
 -- budget 100,000 and a workspace of 8,192 numbers
 abbrev pub desk_budget : ℕ
@@ -81,8 +87,7 @@ unfoldable pub solved_of : Draft → List ℕ
 solved_of s =
     let j = judged (range_list_of s) (primitive_list_of s) (length_list_of s) (literal_list_of s) (desk_lead s) (pos desk_budget) (desk_point s) desk_work in
     let o = search_of (problem_in s) desk_budget in
-    let r = result_of j desk_budget o in
-    answer_lines r.answer r.sweeps s.names (unless j (point_of o (desk_point s)) (desk_point s))
+    solve_lines (result_of j desk_budget o) s.names (unless j (point_of o (desk_point s)) (desk_point s))
 
 abbrev pub printed : sheet.Outcome → List ℕ
 printed (sheet.refused g k) = refused_line (sheet.refusal_number g) k

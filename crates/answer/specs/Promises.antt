@@ -1,6 +1,6 @@
 -- What is promised of `answer`, and of a solve of a sheet's lists.
-use Rattle.std.specs.Prelude.{◌≡◌, true, List, ℕ, ◌≤◌, ℤ, length, take}
-use Rattle.problem.specs.declared.Judged.TheVariants.{Sound}
+use Rattle.std.specs.Prelude.{◌≡◌, true, List, ℕ, ◌≤◌, ℤ, length, take, Result, Ok}
+use Rattle.problem.specs.declared.Refusal.{Refusal}
 use Rattle.search.specs.Solve.{judged, Solves}
 use Rattle.search.specs.declared.Solved.{Solved}
 use Rattle.sheet.specs.Grammar.{Line}
@@ -28,10 +28,10 @@ OutputShort = (t : List ℕ) → length (output_of t) ≤ 4_096
 abbrev pub SheetAnswer : Type 0
 SheetAnswer =
     (t : List ℕ) (s : Draft) → outcome_of t ≡ read s
-    → (lead budget : ℤ) (p₀ w₀ p w : List ℤ) (r : Solved)
+    → (lead budget : ℤ) (p₀ w₀ p w : List ℤ) (r : Result Solved Refusal)
     → Solves (range_list_of s) (primitive_list_of s) (length_list_of s) (literal_list_of s) lead budget p₀ w₀ p w r
-    → judged (range_list_of s) (primitive_list_of s) (length_list_of s) (literal_list_of s) lead budget p₀ w₀ ≡ Sound
-    → (trees : List Line) × Spells t trees × Means (top_in t) trees s.names r.answer p
+    → judged (range_list_of s) (primitive_list_of s) (length_list_of s) (literal_list_of s) lead budget p₀ w₀ ≡ Ok tt
+    → (a : Solved) × (r ≡ Ok a) × (trees : List Line) × Spells t trees × Means (top_in t) trees s.names a.answer p
 
 -- document 01's examples P1 to P12 hold of the definitions
 abbrev pub AllHold : Type 0

@@ -3,15 +3,14 @@
 
 mod write;
 
-ghost use Rattle.std.specs.Prelude.{◌≡◌, ◌≤◌, ◌*◌, length};
-ghost use Rattle.problem.specs.Grounds as problem_grounds;
-ghost use Rattle.meaning.specs.Grounds as sheet_grounds;
+ghost use Rattle.std.specs.Prelude.{◌≤◌, ◌*◌, length};
 ghost use Rattle.answer.specs.Output.{refused_line, count_line, Answers};
 ghost use Rattle.answer.specs.inner.Writing.{Puts};
 ghost use Rattle.answer.specs.inner.Reporting.{report_of, report_on, Fronts};
 
+use problem::Problem;
 use search::{Answer, Solved};
-use translate::Translated;
+use translate::Refused;
 
 // The most sweeps that the desk pays for.
 const BUDGET: i64 = 100_000;
@@ -24,42 +23,6 @@ const MOST: usize = 128;
 
 // How many bytes a name takes, with its padding.
 const NAME: usize = 8;
-
-// Inner: document 01's number of a refusal of a solve.
-pub fn solve_ground(refusal: problem::Refusal) -> usize
-    ensures { result ≡ problem_grounds.refusal_number refusal }
-{
-    match refusal {
-        problem::Refusal::Quantities => 1,
-        problem::Refusal::Lists => 2,
-        problem::Refusal::Ranges => 3,
-        problem::Refusal::Primitives => 4,
-        problem::Refusal::Literals => 5,
-        problem::Refusal::Budget => 6,
-        problem::Refusal::Room => 7,
-        problem::Refusal::Leading => 8,
-    }
-}
-
-// Inner: document 01's number of a refusal of a sheet.
-pub fn sheet_ground(refusal: meaning::Refusal) -> usize
-    ensures { result ≡ sheet_grounds.refusal_number refusal }
-{
-    match refusal {
-        meaning::Refusal::Lists => 19,
-        meaning::Refusal::Text => 20,
-        meaning::Refusal::FirstLine => 21,
-        meaning::Refusal::Version => 22,
-        meaning::Refusal::Brackets => 23,
-        meaning::Refusal::Form => 24,
-        meaning::Refusal::Names => 25,
-        meaning::Refusal::Order => 26,
-        meaning::Refusal::Equalities => 27,
-        meaning::Refusal::Beyond => 28,
-        meaning::Refusal::Many => 29,
-        meaning::Refusal::Undeclared => 30,
-    }
-}
 
 // Writes `REFUSED`, number and line.
 fn refused(out: &mut [u8], number: usize, line: usize) -> usize
@@ -88,8 +51,7 @@ fn report(out: &mut [u8], solved: Solved, names: &[u8], point: &[i64]) -> usize
     ensures { Puts (report_of solved.answer solved.sweeps names.now point.now) out.old 0 out.new result }
 {
     let sweeps = solved.sweeps;
-    let answer = solved.answer;
-    match answer {
+    match solved.answer {
         Answer::None => counted(out, b"NONE", sweeps),
         Answer::Found => {
             let next = counted(out, b"FOUND", sweeps);
@@ -99,37 +61,23 @@ fn report(out: &mut [u8], solved: Solved, names: &[u8], point: &[i64]) -> usize
             let next = counted(out, b"STOP", sweeps);
             write::lines(out, next, names, point)
         }
-        Answer::Refused(ground) => refused(out, solve_ground(ground), 0),
     }
 }
 
-// Solves an accepted sheet, of which it gets the filled fronts of the lists, with its declared quantities leading, and writes the answer.
-fn solved(
-    out: &mut [u8],
-    ranges: &[i64],
-    primitives: &[i64],
-    lengths: &[i64],
-    literals: &[i64],
-    names: &[u8],
-) -> usize
-    requires { Fronts ranges.now names.now }
-    ensures { Puts (report_on ranges.now primitives.now lengths.now literals.now names.now) out.old 0 out.new result }
+// Solves the problem of an accepted sheet with its declared quantities leading, and writes the answer.
+fn solved(out: &mut [u8], problem: Problem, names: &[u8]) -> usize
+    requires { Fronts problem.ranges.now names.now }
+    ensures { Puts (report_on problem.entry.ranges.now problem.entry.primitives.now problem.entry.lengths.now problem.entry.literals.now names.now) out.old 0 out.new result }
 {
-    let n = ranges.len() / 2;
+    let n = problem.ranges.len() / 2;
     let declared = names.len() / NAME;
     let mut point = [0i64; MOST];
     let mut work = [0i64; WORKSPACE];
-    let answer = search::solve(
-        ranges,
-        primitives,
-        lengths,
-        literals,
-        declared as i64,
-        BUDGET,
-        &mut point[..n],
-        &mut work,
-    );
-    report(out, answer, names, &point[..declared])
+    let solved = search::solve(problem, declared as i64, BUDGET, &mut point[..n], &mut work);
+    match solved {
+        Ok(solved) => report(out, solved, names, &point[..declared]),
+        Err(ground) => refused(out, usize::from(ground), 0),
+    }
 }
 
 // A sheet's text in, the desk's whole output at the front of `out`; its length is returned.
@@ -150,21 +98,20 @@ pub fn answer(sheet: &[u8], out: &mut [u8; 4096]) -> usize
         &mut names,
     );
     match translated {
-        Translated::Refused { refusal, line } => refused(out, sheet_ground(refusal), line),
-        Translated::Accepted(counts) => {
+        Err(Refused { refusal, line }) => refused(out, usize::from(refusal), line),
+        Ok(counts) => {
             let q = 2 * counts.quantities;
             let p = 4 * counts.primitives;
             let c = counts.clauses;
             let l = 3 * counts.literals;
             let d = NAME * counts.declared;
-            solved(
-                out,
-                &ranges[..q],
-                &primitives[..p],
-                &lengths[..c],
-                &literals[..l],
-                &names[..d],
-            )
+            let problem = Problem {
+                ranges: &ranges[..q],
+                primitives: &primitives[..p],
+                lengths: &lengths[..c],
+                literals: &literals[..l],
+            };
+            solved(out, problem, &names[..d])
         }
     }
 }

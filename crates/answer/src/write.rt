@@ -27,10 +27,8 @@ pub fn bytes(out: &mut [u8], at: usize, bs: &[u8]) -> usize
     ensures { Puts bs.now out.old at out.new result }
 {
     let mut next = at;
-    let mut i: usize = 0;
-    while i < bs.len() {
-        next = byte(out, next, bs[i]);
-        i += 1;
+    for b in bs {
+        next = byte(out, next, *b);
     }
     next
 }
@@ -62,14 +60,11 @@ fn name(out: &mut [u8], at: usize, bs: &[u8]) -> usize
     ensures { Puts (unpadded bs.now) out.old at out.new result }
 {
     let mut next = at;
-    let mut i: usize = 0;
-    while i < bs.len() {
-        let b = bs[i];
-        if b == b' ' {
+    for b in bs {
+        if *b == b' ' {
             return next;
         }
-        next = byte(out, next, b);
-        i += 1;
+        next = byte(out, next, *b);
     }
     next
 }
@@ -80,13 +75,11 @@ pub fn lines(out: &mut [u8], at: usize, names: &[u8], point: &[i64]) -> usize
     ensures { Puts (lines_for names.now point.now) out.old at out.new result }
 {
     let mut next = at;
-    let mut q: usize = 0;
-    while q < point.len() {
+    for (q, z) in point.iter().enumerate() {
         next = name(out, next, &names[8 * q..8 * q + 8]);
         next = byte(out, next, b' ');
-        next = value(out, next, point[q]);
+        next = value(out, next, *z);
         next = byte(out, next, b'\n');
-        q += 1;
     }
     next
 }

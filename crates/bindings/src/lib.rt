@@ -1,5 +1,5 @@
-// The calls for C: each says in numbers what the call of the same name answers, and asks nothing of its caller. The archive for C is
-// made of the static library `bindings_c`, whose exports call these.
+// The calls for C, and the static library that has them: each says in numbers what the call of the same name answers, and asks nothing of
+// its caller.
 #![tactic(auto)]
 
 ghost use Rattle.std.specs.Prelude.{◌≡◌};
@@ -7,8 +7,9 @@ ghost use Rattle.sheet.specs.Lines.{span_of};
 ghost use Rattle.answer.specs.Output.{Answers};
 ghost use Rattle.bindings.specs.Calls.{solve_numbers, SolvesInC, translate_numbers, TranslatesInC, span_numbers};
 
+use problem::{Problem, Refusal};
 use search::{Answer, Solved};
-use translate::Translated;
+use translate::{Counts, Refused};
 
 // What a solve answers: 0 none, 1 found, 2 stopped, 3 refused; the refusal's number, 0 where there is none; and the number of sweeps used.
 #[repr(C)]
@@ -41,41 +42,33 @@ pub struct LineSpan {
 }
 
 // A solve's answer in numbers.
-fn solve_numbers(solved: Solved) -> SolveNumbers
+fn solve_numbers(solved: Result<Solved, Refusal>) -> SolveNumbers
     ensures { result ≡ solve_numbers solved }
 {
-    let answer = solved.answer;
-    let sweeps = solved.sweeps;
-    match answer {
-        Answer::None => SolveNumbers {
-            answer: 0,
+    match solved {
+        Ok(Solved { answer, sweeps }) => SolveNumbers {
+            answer: match answer {
+                Answer::None => 0,
+                Answer::Found => 1,
+                Answer::Stopped => 2,
+            },
             refusal: 0,
             sweeps,
         },
-        Answer::Found => SolveNumbers {
-            answer: 1,
-            refusal: 0,
-            sweeps,
-        },
-        Answer::Stopped => SolveNumbers {
-            answer: 2,
-            refusal: 0,
-            sweeps,
-        },
-        Answer::Refused(ground) => SolveNumbers {
+        Err(ground) => SolveNumbers {
             answer: 3,
-            refusal: answer::solve_ground(ground),
-            sweeps,
+            refusal: usize::from(ground),
+            sweeps: 0,
         },
     }
 }
 
 // A translation's answer in numbers.
-fn translate_numbers(translated: Translated) -> TranslateNumbers
+fn translate_numbers(translated: Result<Counts, Refused>) -> TranslateNumbers
     ensures { result ≡ translate_numbers translated }
 {
     match translated {
-        Translated::Accepted(counts) => TranslateNumbers {
+        Ok(counts) => TranslateNumbers {
             refusal: 0,
             line: 0,
             quantities: counts.quantities,
@@ -84,8 +77,8 @@ fn translate_numbers(translated: Translated) -> TranslateNumbers
             clauses: counts.clauses,
             literals: counts.literals,
         },
-        Translated::Refused { refusal, line } => TranslateNumbers {
-            refusal: answer::sheet_ground(refusal),
+        Err(Refused { refusal, line }) => TranslateNumbers {
+            refusal: usize::from(refusal),
             line,
             quantities: 0,
             declared: 0,
@@ -110,9 +103,13 @@ pub extern "C" fn ularimpong_solve(
 ) -> SolveNumbers
     ensures { SolvesInC ranges.now primitives.now lengths.now literals.now leading budget point.old work.old point.new work.new result }
 {
-    solve_numbers(search::solve(
-        ranges, primitives, lengths, literals, leading, budget, point, work,
-    ))
+    let problem = Problem {
+        ranges,
+        primitives,
+        lengths,
+        literals,
+    };
+    solve_numbers(search::solve(problem, leading, budget, point, work))
 }
 
 // Translates a sheet into a problem.

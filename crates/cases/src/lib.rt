@@ -1,12 +1,11 @@
-// What the programs that run the examples share: lists read and written within their bounds, texts and tables, a pseudo-random
+// What the programs that run the examples share: data files and the fields of their lines, lists that are lent with marks, a pseudo-random
 // sequence, and what is printed. Every function of this crate is inner: only `trials`, `refusals` and `examples` call it. It is safe
-// and ends, and promises nothing else: nothing here is for users of the library.
+// and ends, and promises little else: nothing here is for users of the library.
 #![tactic(auto)]
 
-pub mod lists;
+pub mod fields;
+pub mod marks;
 pub mod report;
-pub mod rows;
 pub mod sequence;
 pub mod table;
-pub mod text;
 pub mod unfold;

@@ -1,19 +1,29 @@
 // What the program prints.
+ghost use Rattle.std.specs.Prelude.{◌^◌};
+ghost use Rattle.std.specs.Iterator.{UpTo};
+
 use std::io;
-use std::io::Write;
 
-// A group's name, its number of cases and its number of agreements.
-pub fn group(rt: &impl Print, name: &[u8], cases: usize, agreed: usize) -> io::Result<()> {
-    let mut out = io::writer(rt);
-    out.write_all(name)?;
-    writeln!(out, " {cases} {agreed}")
-}
-
-// 1 for an agreement; a disagreement prints its case.
-pub fn counted(rt: &impl Print, agrees: bool, case: usize) -> io::Result<usize> {
-    if agrees {
-        return Ok(1);
+// Compares cases: prints each that disagrees, and then the group's name, its number of cases and its number of agreements.
+pub fn compare<C, I: Iterator<Item = C> + Drop, F: FnMut(C) -> io::Result<bool>>(
+    rt: &impl Print,
+    name: &str,
+    cases: I,
+    mut agrees: F,
+) -> io::Result<()>
+    requires can_next { I.can_next cases }
+    requires few { UpTo (I.remaining cases) (2 ^ 63) }
+    requires callable { F.IsAlwaysCallable agrees }
+{
+    let mut count: usize = 0;
+    let mut agreed: usize = 0;
+    for case in cases {
+        if agrees(case)? {
+            agreed += 1;
+        } else {
+            println!(rt; "disagreement in case {count}")?;
+        }
+        count += 1;
     }
-    println!(rt; "disagreement in case {case}")?;
-    Ok(0)
+    println!(rt; "{name} {count} {agreed}")
 }

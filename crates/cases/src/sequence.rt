@@ -1,14 +1,32 @@
-// A fixed pseudo-random sequence, its state kept in a list of counts.
-use crate::lists;
+// A fixed pseudo-random sequence.
+ghost use Rattle.std.specs.Prelude.{◌≡◌, ◌*◌, ◌/◌, ◌%◌, ◌<◌, ◌≤◌};
 
-// A number below a limit, or 0 where the limit is 0.
-fn under(v: usize, limit: usize) -> usize {
-    if limit == 0 { 0 } else { v % limit }
+const MODULUS: usize = 2_147_483_647;
+
+const FACTOR: usize = 48_271;
+
+// The state of the sequence.
+#[derive(Drop)]
+pub struct Sequence {
+    pub state: usize,
 }
 
-// The next number of the sequence, below a limit.
-pub fn draw(p: &mut [usize], place: usize, limit: usize) -> usize {
-    let state = (lists::of(p, place) % 2_147_483_647) * 48_271 % 2_147_483_647;
-    lists::set(p, place, state);
-    under(state / 16, limit)
+impl Sequence {
+    // The sequence from a first state.
+    pub fn new(seed: usize) -> Sequence
+        ensures { result.state ≡ seed }
+    {
+        Sequence { state: seed }
+    }
+
+    // The next number of the sequence, below a limit, or 0 where the limit is 0.
+    pub fn draw(&mut self, limit: usize) -> usize
+        ensures state { self.new.state ≡ self.old.state % MODULUS * FACTOR % MODULUS }
+        ensures drawn { 0 < limit → result ≡ self.new.state / 16 % limit }
+        ensures below { 0 < limit → result < limit }
+        ensures at_most { result ≤ limit }
+    {
+        self.state = self.state % MODULUS * FACTOR % MODULUS;
+        (self.state / 16).checked_rem(limit).unwrap_or(0)
+    }
 }

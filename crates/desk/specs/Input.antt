@@ -1,9 +1,6 @@
 -- What reading the input comes to.
-use Rattle.std.specs.Prelude.{List, ℕ, ◌≤◌, length}
-use Rattle.desk.specs.declared.Input.{Input}
-use Rattle.desk.specs.declared.Input.TheVariants.{Read, Failed}
+use Rattle.std.specs.Prelude.{List, ℕ, ◌≤◌, length, Result, IfOk}
 
 -- what was read lies in the buffer
-abbrev pub Within : Input → List ℕ → Type 0
-Within (Read n) buffer = n ≤ length buffer
-Within Failed buffer = Unit {0}
+abbrev pub Within : {E : Type 0} → Result ℕ E → List ℕ → Type 0
+Within r buffer = IfOk r (λ n. n ≤ length buffer)

@@ -1,341 +1,173 @@
-// A random sheet in one list of counts: the number of declared quantities at place 0, the number of items at 1, the sequence's state
-// at 2, low ends from 4, numbers of values from 8, and from 16 on the rules as items in postfix order.
+// The drawing of small sheets from a pseudo-random sequence.
+ghost use Rattle.std.specs.Prelude.{◌<◌};
+
 use crate::room;
-use cases::{lists, sequence};
-
-// Items: a number is itself, quantity q is QUANTITY + q; then operations, comparisons, and the words of a rule.
-pub const QUANTITY: usize = 100;
-
-pub const PLUS: usize = 110;
-
-pub const MINUS: usize = 111;
-
-pub const TIMES: usize = 112;
-
-pub const SQUARE: usize = 113;
-
-pub const BRACKETS: usize = 114;
-
-pub const CLOSING: usize = 115;
-
-pub const AT_MOST: usize = 116;
-
-pub const LESS: usize = 117;
-
-pub const AT_LEAST: usize = 118;
-
-pub const MORE: usize = 119;
-
-pub const EQUAL: usize = 120;
-
-pub const UNEQUAL: usize = 121;
-
-pub const MUST: usize = 122;
-
-pub const IF: usize = 123;
-
-pub const AND: usize = 124;
-
-pub const THEN: usize = 125;
-
-pub const OR: usize = 126;
-
-pub const END: usize = 127;
-
-// Tokens of a text that are no items.
-pub const RANGE: usize = 128;
-
-pub const MARK: usize = 129;
-
-pub const FOUND: usize = 130;
-
-pub const NONE: usize = 131;
-
-// No number and no end is farther from 0.
-pub const FAR: usize = 12;
-
-// The places of the list.
-const COUNT: usize = 0;
-
-const ITEMS: usize = 1;
-
-const STATE: usize = 2;
-
-const LOWS: usize = 4;
-
-const VALUES: usize = 8;
-
-const FIRST: usize = 16;
+use crate::small::{Comparison, Expression, Operation, Range, Rule, Sheet, Sign};
+use cases::sequence::Sequence;
+use std::alloc::{AllocError, Global};
 
 // The sequence's first state.
 const SEED: usize = 40_009;
 
-// How many items a side of a comparison takes at most, brackets and squares not counted.
-const SIDE: usize = 5;
-
-// What is left to make of one side: how many numbers and names, how many values wait for an operation, and how many squares are there.
-#[derive(Clone, Copy)]
-struct Side {
-    leaves: usize,
-    depth: usize,
-    squares: usize,
+// What sheets are drawn with: the allocator, the sequence, how many quantities the sheet in hand has, and whether the rule in hand has
+// an equality demand.
+#[derive(Drop)]
+pub struct Drawing {
+    alloc: Global,
+    sequence: Sequence,
+    quantities: usize,
+    demanded: bool,
+    ghost some: { 0 < quantities },
 }
 
-// How many declared quantities there are.
-pub fn declared(p: &[usize]) -> usize {
-    lists::of(p, COUNT)
-}
-
-// The low end of a quantity, wrapped.
-pub fn low(p: &[usize], q: usize) -> usize {
-    lists::of(p, LOWS + q % 4)
-}
-
-// How many values a quantity has.
-pub fn values(p: &[usize], q: usize) -> usize {
-    lists::of(p, VALUES + q % 4)
-}
-
-// How many items there are.
-pub fn items(p: &[usize]) -> usize {
-    lists::of(p, ITEMS)
-}
-
-// An item.
-pub fn item(p: &[usize], i: usize) -> usize {
-    lists::of(p, std::num::wrapping_add_usize(FIRST, i))
-}
-
-// The next number of the sequence, below a limit.
-fn draw(p: &mut [usize], limit: usize) -> usize {
-    sequence::draw(p, STATE, limit)
-}
-
-// Puts one more item behind the others.
-fn push(p: &mut [usize], v: usize) {
-    let i = items(p);
-    lists::set(p, std::num::wrapping_add_usize(FIRST, i), v);
-    lists::set(p, ITEMS, std::num::wrapping_add_usize(i, 1));
-}
-
-// The most values that a quantity is given.
-fn most_values(n: usize) -> usize {
-    if n <= 2 { 8 } else { 5 }
-}
-
-// Makes the range of a quantity: low from -6 to 5.
-fn make_range(p: &mut [usize], n: usize, q: usize) {
-    let above = draw(p, 12);
-    let count = draw(p, most_values(n));
-    lists::set(p, LOWS + q % 4, std::num::wrapping_sub_usize(above, 6));
-    lists::set(p, VALUES + q % 4, std::num::wrapping_add_usize(count, 1));
-}
-
-// Makes the ranges.
-fn make_ranges(p: &mut [usize], n: usize) {
-    for q in 0..n {
-        make_range(p, n, q);
-    }
-}
-
-// Makes a number or a name: a number one time in three.
-fn make_leaf(p: &mut [usize]) {
-    let kind = draw(p, 3);
-    if kind == 0 {
-        let v = draw(p, FAR + 1);
-        push(p, v);
-        return;
-    }
-    let n = declared(p);
-    let q = draw(p, n);
-    push(p, QUANTITY + q % 4);
-}
-
-// Makes an operation on two values.
-fn make_operation(p: &mut [usize]) {
-    let kind = draw(p, 3);
-    push(p, PLUS + kind % 3);
-}
-
-// Makes brackets one time in eight.
-fn make_brackets(p: &mut [usize]) {
-    let kind = draw(p, 8);
-    if kind == 0 {
-        push(p, BRACKETS);
-    }
-}
-
-// Makes a square one time in five, and one a side; gives how many there are then.
-fn make_square(p: &mut [usize], squares: usize) -> usize {
-    let kind = draw(p, 5);
-    if squares == 1 {
-        return 1;
-    }
-    if kind == 0 {
-        push(p, SQUARE);
-        return 1;
-    }
-    0
-}
-
-// Whether the next item is a number or a name.
-fn wants_leaf(side: Side, coin: usize) -> bool {
-    if side.leaves == 0 {
-        return false;
-    }
-    if side.depth <= 1 {
-        return true;
-    }
-    coin == 0
-}
-
-// Makes a number or a name, or an operation.
-fn make_item(p: &mut [usize], side: Side) -> Side {
-    let coin = draw(p, 2);
-    if wants_leaf(side, coin) {
-        make_leaf(p);
-        return Side {
-            leaves: std::num::wrapping_sub_usize(side.leaves, 1),
-            depth: std::num::wrapping_add_usize(side.depth, 1),
-            squares: side.squares,
-        };
-    }
-    make_operation(p);
-    Side {
-        leaves: side.leaves,
-        depth: std::num::wrapping_sub_usize(side.depth, 1),
-        squares: side.squares,
-    }
-}
-
-// Makes the next items of a side: perhaps with a square or brackets behind.
-fn make_more(p: &mut [usize], side: Side) -> Side {
-    let made = make_item(p, side);
-    let squares = make_square(p, made.squares);
-    make_brackets(p);
-    Side {
-        leaves: made.leaves,
-        depth: made.depth,
-        squares,
-    }
-}
-
-// Whether a side is made.
-fn is_made(side: Side) -> bool {
-    if side.leaves == 0 {
-        return side.depth == 1;
-    }
-    false
-}
-
-// How many numbers and names a side has: 1 to 3.
-fn leaves_of(kind: usize) -> usize {
-    if kind < 3 {
-        return 1;
-    }
-    if kind < 7 { 2 } else { 3 }
-}
-
-// Makes a side of a comparison.
-fn make_side(p: &mut [usize]) {
-    let kind = draw(p, 8);
-    let mut side = Side {
-        leaves: leaves_of(kind),
-        depth: 0,
-        squares: 0,
-    };
-    for i in 0..SIDE {
-        if is_made(side) {
-            return;
+impl Drawing {
+    // Before the first sheet.
+    pub fn new(alloc: Global) -> Drawing {
+        Drawing {
+            alloc,
+            sequence: Sequence::new(SEED),
+            quantities: 1,
+            demanded: false,
         }
-        side = make_more(p, side);
     }
-}
 
-// Whether a comparison is an equality demand: `=` after must or then, `!=` after if.
-fn demands(sign: usize, condition: bool) -> bool {
-    if condition {
-        return sign == UNEQUAL;
+    // Whether a draw of so many gives 0.
+    fn one_in(&mut self, many: usize) -> bool {
+        self.sequence.draw(many) == 0
     }
-    sign == EQUAL
-}
 
-// A sign that is no second equality demand.
-fn allowed(sign: usize, condition: bool, demanded: bool) -> usize {
-    if demanded && demands(sign, condition) {
-        return AT_MOST;
+    // A range: its low end from -6 to 5, with up to 8 values where there are one or two quantities, and up to 5 where there are three.
+    fn range(&mut self) -> Range {
+        let low = self.sequence.draw(12) as i64 - 6;
+        let values = if self.quantities <= 2 { 8 } else { 5 };
+        Range {
+            low,
+            high: low + self.sequence.draw(values) as i64,
+        }
     }
-    sign
-}
 
-// Makes a comparison; gives whether the rule has an equality demand then.
-fn make_comparison(p: &mut [usize], condition: bool, demanded: bool) -> bool {
-    make_side(p);
-    make_side(p);
-    let kind = draw(p, 6);
-    let sign = allowed(AT_MOST + kind % 6, condition, demanded);
-    push(p, sign);
-    demanded || demands(sign, condition)
-}
-
-// Makes one or two comparisons with a word between; gives whether the rule has an equality demand then.
-fn make_part(p: &mut [usize], word: usize, condition: bool, demanded: bool) -> bool {
-    let first = make_comparison(p, condition, demanded);
-    let more = draw(p, 2);
-    if more == 0 {
-        return first;
+    // A number or a name: a number one time in three.
+    fn leaf(&mut self) -> Expression {
+        if self.one_in(3) {
+            return Expression::Number(self.sequence.draw(13) as u8);
+        }
+        Expression::Quantity(self.sequence.draw(self.quantities))
     }
-    push(p, word);
-    make_comparison(p, condition, first)
-}
 
-// Makes the if part of a rule, or none; gives whether the rule has an equality demand then.
-fn make_conditions(p: &mut [usize]) -> bool {
-    let kind = draw(p, 2);
-    if kind == 0 {
-        push(p, MUST);
-        return false;
+    // An operation.
+    fn operation(&mut self) -> Operation {
+        match self.sequence.draw(3) {
+            0 => Operation::Plus,
+            1 => Operation::Minus,
+            _ => Operation::Times,
+        }
     }
-    push(p, IF);
-    let demanded = make_part(p, AND, true, false);
-    push(p, THEN);
-    demanded
-}
 
-// Makes a rule.
-fn make_rule(p: &mut [usize]) {
-    let demanded = make_conditions(p);
-    let both = make_part(p, OR, false, demanded);
-    push(p, END);
-}
-
-// Makes a rule, and leaves it out again where the sheet might need more room than the desk has.
-fn make_fitting_rule(p: &mut [usize], v: &mut [usize]) {
-    let before = items(p);
-    make_rule(p);
-    if !room::fits(p, v) {
-        lists::set(p, ITEMS, before);
+    // A sign.
+    fn sign(&mut self) -> Sign {
+        match self.sequence.draw(6) {
+            0 => Sign::AtMost,
+            1 => Sign::Below,
+            2 => Sign::AtLeast,
+            3 => Sign::Above,
+            4 => Sign::Equal,
+            _ => Sign::Differ,
+        }
     }
-}
 
-// Makes up to a number of rules.
-fn make_rules(p: &mut [usize], rules: usize, v: &mut [usize]) {
-    for i in 0..rules {
-        make_fitting_rule(p, v);
+    // How many numbers and names a side has: 1 to 3.
+    fn leaves(&mut self) -> usize
+        ensures { 0 < result }
+    {
+        match self.sequence.draw(8) {
+            0..=2 => 1,
+            3..=6 => 2,
+            _ => 3,
+        }
     }
-}
 
-// Starts the sequence.
-pub fn start(p: &mut [usize]) {
-    lists::set(p, STATE, SEED);
-}
+    // A side of a comparison. Each item is a number or a name, or an operation on the last two values that wait; a square one time in
+    // five, once a side, and brackets one time in eight stand round it.
+    fn side(&mut self) -> Result<Expression, AllocError> {
+        let mut leaves = self.leaves();
+        let mut squared = false;
+        let mut waiting: Vec<Expression> = Vec::new(self.alloc);
+        while leaves > 0 || waiting.len() > 1 {
+            let early = self.one_in(2);
+            let mut item = if leaves > 0 && (waiting.len() < 2 || early) {
+                leaves -= 1;
+                self.leaf()
+            } else {
+                let right = waiting.pop().unwrap();
+                let left = waiting.pop().unwrap();
+                left.operated(self.alloc, self.operation(), right)?
+            };
+            if self.one_in(5) && !squared {
+                squared = true;
+                item = item.squared(self.alloc)?;
+            }
+            if self.one_in(8) {
+                item = item.bracketed(self.alloc)?;
+            }
+            waiting.push(item)?;
+        }
+        Ok(waiting.pop().unwrap())
+    }
 
-// Makes the next sheet of the sequence.
-pub fn make(p: &mut [usize], v: &mut [usize]) {
-    let n = draw(p, 3) % 3 + 1;
-    lists::set(p, COUNT, n);
-    lists::set(p, ITEMS, 0);
-    make_ranges(p, n);
-    let rules = draw(p, 4) % 4 + 1;
-    make_rules(p, rules, v);
+    // A comparison. One with the sign given is an equality demand; a second one in the rule gets `<=` instead.
+    fn comparison(&mut self, equality: Sign) -> Result<Comparison, AllocError> {
+        let left = self.side()?;
+        let right = self.side()?;
+        let mut sign = self.sign();
+        if sign == equality {
+            if self.demanded {
+                sign = Sign::AtMost;
+            }
+            self.demanded = true;
+        }
+        Ok(Comparison { left, sign, right })
+    }
+
+    // One or two comparisons. One with the sign given is an equality demand.
+    fn part(&mut self, equality: Sign) -> Result<Vec<Comparison>, AllocError> {
+        let mut part = vec![in self.alloc; self.comparison(equality)?]?;
+        if !self.one_in(2) {
+            part.push(self.comparison(equality)?)?;
+        }
+        Ok(part)
+    }
+
+    // A rule, with conditions one time in two: `=` is an equality demand in a demand, `!=` in a condition.
+    fn rule(&mut self) -> Result<Rule, AllocError> {
+        self.demanded = false;
+        let conditions = if self.one_in(2) {
+            Vec::new(self.alloc)
+        } else {
+            self.part(Sign::Differ)?
+        };
+        let demands = self.part(Sign::Equal)?;
+        Ok(Rule {
+            conditions,
+            demands,
+        })
+    }
+
+    // The next sheet: one to three quantities and up to four rules, those left out with which it might need more room than the desk has.
+    pub fn sheet(&mut self) -> Result<Sheet, AllocError> {
+        let mut sheet = Sheet {
+            ranges: Vec::new(self.alloc),
+            rules: Vec::new(self.alloc),
+        };
+        self.quantities = 1 + self.sequence.draw(3);
+        for _ in 0..self.quantities {
+            sheet.ranges.push(self.range())?;
+        }
+        for _ in 0..1 + self.sequence.draw(4) {
+            sheet.rules.push(self.rule()?)?;
+            if !room::fits(&sheet) {
+                let _ = sheet.rules.pop();
+            }
+        }
+        Ok(sheet)
+    }
 }

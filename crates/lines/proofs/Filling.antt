@@ -1,11 +1,10 @@
--- A list filled from the front: one element more at the seam fills it by one, until all are copied; and what stands in front of a part that came back changed.
+-- A list filled from the front: one element more at the seam fills it by one; and what stands in front of a part that came back changed.
 use mathlib.Core.Path.{◌≡◌, sym, ap, ◌∙◌}
 use mathlib.Core.List.{List, [], ◌∷◌, ◌++◌}
 use Prim.Native.Nat.{ℕ, suc, ◌+◌, ◌≤◌, ◌<◌}
 use native.Mathlib.Numerals.{add-one}
-use native.Mathlib.Omega.{arith}
 use lib.ListN.{length, get_or, take, drop, set, length-append}
-use lib.Seq.{length-take-le, drop-cons, take-suc, take_all, take-append-add, take-append-le, append_snoc, set-append_seam}
+use lib.Seq.{length-take-le, drop-cons, take-append-add, take-append-le, append_snoc, set-append_seam}
 use borrow.Rule.Slice.PartMut.{put_mid}
 
 -- ---- one element more at the seam
@@ -17,20 +16,6 @@ fill_next {A} xs old n v d e h =
     ∙ set-append_seam xs (get_or old (length xs) d) (drop (suc (length xs)) old) v
     ∙ sym (append_snoc xs v (drop (suc (length xs)) old))
     ∙ ap (λ (k : ℕ). (xs ++ (v ∷ [])) ++ drop k old) (sym m)
-
--- ---- the elements of a list one by one
-module _ {A : Type 0} (from to : List A) where
-  -- the first i of them stand at the front, and behind them what was there
-  abbrev pub copied : ℕ → List A
-  copied i = take i from ++ drop (length (take i from)) to
-
-  pub copy_next : (i : ℕ) (d : A) → i < length from → length from ≤ length to → (l : List A) (v : A) → l ≡ copied i → v ≡ get_or from i d → set l i v ≡ copied (i + 1)
-  copy_next i d h fits l v e f =
-      let n : length (take i from) ≡ i = length-take-le i from (omega arith) in
-      rw (e, f, add-one, take-suc from i d) (fill_next (take i from) to i (get_or from i d) d (sym n) (omega arith))
-
-  pub copy_done : (i : ℕ) → length from ≡ i → copied i ≡ from ++ drop (length from) to
-  copy_done i e = ap (λ (l : List A). l ++ drop (length l) to) (take_all i from (omega arith))
 
 -- ---- the front of a list whose rest came back changed
 pub part_front : {A : Type 0} (a k m : ℕ) (xs ys : List A) → a ≤ length xs → m ≤ length ys → take (a + m) (put_mid a k xs ys) ≡ take a xs ++ take m ys

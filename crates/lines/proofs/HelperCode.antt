@@ -1,22 +1,22 @@
 -- What the code makes of a number, a name and an operation is what the definitions write: each part of the answer is the definition's.
-use mathlib.Core.Path.{◌≡◌, ap₂, subst}
-use mathlib.Core.Bool.{Bool, ◌||◌}
-use mathlib.Core.List.{List}
-use Prim.Native.Nat.{ℕ, suc, ◌+◌, ◌<◌}
+use mathlib.Core.Path.{◌≡◌, refl, ap, ap₂, subst}
+use mathlib.Core.Bool.{Bool, true, false, cond, ◌||◌}
+use mathlib.Core.List.{List, [], ◌∷◌}
+use Prim.Native.Nat.{ℕ, suc, ◌≤◌}
 use native.Mathlib.Omega.{arith}
-use native.Mathlib.Numerals.{add-one}
-use lib.Dec.{leb}
+use lib.Dec.{eqb, leb}
 use lib.IntN.{ℤ, pos}
-use lib.ListN.{length, get_or, drop}
-use lib.Seq.{drop-cons, drop-length}
+use lib.ListN.{length}
 use lib.Signed.{◌≤ℤ◌}
-use borrow.Author.Tests.{eq-eqb, ne_eqb}
+use borrow.Author.Tests.{ltb-false}
+use Rattle.std.specs.Prelude.{Some, None, unwrap_or, nat_lt, position}
+use Rattle.std.specs.List.{position_or_len}
+use Rattle.std.proofs.lemmas.List.Recursion.{is_position_or_len}
 use Rattle.whole.specs.Ranges.{range, sum_span, difference_span, product_span, square_span}
 use Rattle.whole.specs.inner.Held.{held_span, Good}
 use Rattle.whole.specs.declared.Range.{Range}
 use Rattle.whole.proofs.Spans.{product_ordered, square_ordered}
 use Rattle.problem.specs.Problem.{range_at}
-use Rattle.problem.specs.Grounds.{bad_range}
 use Rattle.problem.specs.declared.Primitive.{Primitive}
 use Rattle.problem.specs.declared.Primitive.TheVariants.{Sum, Product, Square}
 use Rattle.meaning.specs.Plain.{place_of, constant, quantity, sum, difference, product}
@@ -28,8 +28,6 @@ use Rattle.lines.specs.declared.parts.Emitted.{Emitted}
 use Rattle.lines.proofs.ComputableRanges.{bad_held, kept_held}
 
 -- ---- a helper
-pub helper_is : (s : Range) (rs ps : List ℤ) (count : ℕ) (m : Making) {k : Range} {u : ℕ} {w : Bool} {rs' : List ℤ} → Keeps s k → u ≡ bump m.used → w ≡ (m.wide || bad_range s.low s.high) → rs' ≡ put_range rs m.used k → Emits (another s rs ps count m) (record { held = record { place = m.used; span = k }; making = record { used = u; count = count; unknown = m.unknown; wide = w } }) rs' ps
-helper_is s rs ps count m h e f g = record { is = rw (g, h.is, e, f); good = h.good }
 
 -- the same of a held span
 made : (k : Range) (b : Bool) (rs ps : List ℤ) (count : ℕ) (m : Making) → Emit
@@ -46,9 +44,6 @@ unfolding made
 another_held s rs ps count m o = ap₂ (λ (k : Range) (b : Bool). made k b rs ps count m) (kept_held s o) (bad_held s o)
 
 -- ---- operations
-pub operated_is : (s : Range) (p : Primitive) (rs ps : List ℤ) (m : Making) {n : ℕ} {ps1 : List ℤ} {r : Emitted} {rs' : List ℤ} → ps1 ≡ put_primitive ps m.count p → n ≡ bump m.count → Emits (another s rs ps1 n m) r rs' ps1 → Emits (operated s p rs ps m) r rs' ps1
-operated_is s p rs ps m {n} {ps1} {r} {rs'} e f h =
-    subst (λ (x : List ℤ). Emits (another s rs x (bump m.count) m) r rs' ps1) e (subst (λ (k : ℕ). Emits (another s rs ps1 k m) r rs' ps1) f h)
 
 operated_held : (s : Range) (p : Primitive) (rs ps : List ℤ) (m : Making) {r : Emitted} {rs' ps' : List ℤ} → s.low ≤ℤ s.high → Emits (operated (held_span s) p rs ps m) r rs' ps' → Emits (operated s p rs ps m) r rs' ps'
 operated_held s p rs ps m {r} {rs'} {ps'} o h =
@@ -75,28 +70,32 @@ square_is e rs ps k f h =
     (square_ordered e.held.span k.ordered) (rw f at h)
 
 -- ---- a number and a name
-pub constant_is : (n : ℕ) (rs ps : List ℤ) (m : Making) {z : ℤ} {r : Emitted} {rs' : List ℤ} → z ≡ pos n → Emits (another (range z z) rs ps m.count m) r rs' ps → (d : ℕ) → Emits (emit d (constant n) rs ps m) r rs' ps
+pub constant_is : (n : ℕ) (rs ps : List ℤ) (m : Making) {z : ℤ} {r : Emitted} {rs' ps' : List ℤ} → z ≡ pos n → Emits (another (range z z) rs ps m.count m) r rs' ps' → (d : ℕ) → Emits (emit d (constant n) rs ps m) r rs' ps'
 unfolding emit
-constant_is n rs ps m {z} {r} {rs'} e h d = subst (λ (x : ℤ). Emits (another (range x x) rs ps m.count m) r rs' ps) e h
+constant_is n rs ps m {z} {r} {rs'} {ps'} e h d = subst (λ (x : ℤ). Emits (another (range x x) rs ps m.count m) r rs' ps') e h
 
 pub named_is : (d q : ℕ) (rs ps : List ℤ) (m : Making) {p : ℕ} {k : Range} {b : Bool} → p ≡ q → b ≡ (m.unknown || leb d p) → Keeps (range_at rs p) k → Emits (emit d (quantity q) rs ps m) (record { held = record { place = p; span = k }; making = record { used = m.used; count = m.count; unknown = b; wide = m.wide } }) rs ps
 unfolding emit
 named_is d q rs ps m e f h = record { is = rw (h.is, f, e); good = h.good }
 
 -- ---- the place of a name
-module _ (ks : List ℕ) (n : ℕ) where
-  pub place_here : (i : ℕ) → i < length ks → get_or ks i 0 ≡ n → place_of ks n ≡ i + place_of (drop i ks) n → i ≡ place_of ks n
+module _ (n : ℕ) where
+  place_in : (ks : List ℕ) → place_of ks n ≡ position_or_len (λ k. eqb k n) ks
   unfolding place_of
-  place_here i h e f =
-      let g : place_of (drop i ks) n ≡ 0 = rw (drop-cons ks i 0, eq-eqb (get_or ks i 0) n e) in
-      omega arith
+  place_in ks = is_position_or_len (λ ms. place_of ms n) (λ k. eqb k n) refl (λ m ms. ap (cond (eqb m n) 0) (omega arith)) ks
 
-  pub place_on : (i : ℕ) → i < length ks → (get_or ks i 0 ≡ n → ⊥) → place_of ks n ≡ i + place_of (drop i ks) n → place_of ks n ≡ (i + 1) + place_of (drop (i + 1) ks) n
+  place_within : (ks : List ℕ) → place_of ks n ≤ length ks
   unfolding place_of
-  place_on i h e f =
-      let g : place_of (drop i ks) n ≡ suc (place_of (drop (i + 1) ks) n) = rw (add-one, drop-cons ks i 0, ne_eqb (get_or ks i 0) n e) in
-      omega arith
+  place_within [] = omega arith
+  place_within (k ∷ ks) = by (eqb k n) (place_within ks)
+    where
+      by : (b : Bool) → place_of ks n ≤ length ks → cond b 0 (suc (place_of ks n)) ≤ suc (length ks)
+      by true h = omega arith
+      by false h = omega (arith, h)
 
-  pub place_none : (i : ℕ) → i ≡ length ks → place_of ks n ≡ i + place_of (drop i ks) n → i ≡ place_of ks n
-  unfolding place_of
-  place_none i h f = let g : place_of (drop i ks) n ≡ 0 = rw (h, drop-length ks) in omega arith
+  pub place_found : (ks : List ℕ) → unwrap_or (position (λ k. eqb k n) ks) (length ks) ≡ place_of ks n
+  place_found ks = rw (← place_in ks) (by (nat_lt (place_of ks n) (length ks)) refl)
+    where
+      by : (b : Bool) → nat_lt (place_of ks n) (length ks) ≡ b → unwrap_or (cond b (Some (place_of ks n)) None) (length ks) ≡ place_of ks n
+      by true e = refl
+      by false e = let all : length ks ≡ place_of ks n = omega (arith, place_within ks, ltb-false _ _ e) in all

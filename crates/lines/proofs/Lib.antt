@@ -2,7 +2,6 @@
 
 -- lists written from the front
 pub mod ListFronts
-pub mod StoredNumbers
 pub mod PutBehind
 pub mod Filling
 -- what a tree writes: counts, flags, ranges, and its exact piece
@@ -23,10 +22,8 @@ pub mod ComputableRanges
 pub mod HelperCode
 pub mod FirstTokens
 pub mod ExpressionCode
-pub mod SignCode
 pub mod ComparisonCode
 pub mod RuleCode
-pub mod ClauseCode
 pub mod RangeLineCode
 pub mod RuleLineCode
 pub mod LineCode

@@ -8,6 +8,7 @@ use native.Mathlib.Omega.{arith}
 use lib.Dec.{eqb}
 use lib.IntN.{ℤ}
 use lib.ListN.{length}
+use Rattle.std.specs.Prelude.{Result, Err}
 use Rattle.sheet.specs.Tokens.{tokens_of}
 use Rattle.sheet.specs.Depth.{too_deep}
 use Rattle.sheet.specs.Grammar.{Line}
@@ -19,10 +20,9 @@ use Rattle.sheet.specs.declared.Token.{Token}
 use Rattle.sheet.specs.declared.Token.TheVariants.{Number, Negative, Name, Fixed, Bad}
 use Rattle.sheet.proofs.Steps.{from_start}
 use Rattle.meaning.specs.Grounds.{one_line}
+use Rattle.meaning.specs.declared.Refusal.{Refusal}
 use Rattle.meaning.specs.declared.Refusal.TheVariants as refusal
 use Rattle.lines.specs.declared.parts.Progress.{Progress}
-use Rattle.lines.specs.declared.parts.Lined.{Lined}
-use Rattle.lines.specs.declared.parts.Lined.TheVariants.{Refused}
 use Rattle.lines.specs.inner.Stored.{Answers, line_by, tree_by, rule_f}
 
 -- ---- the first token
@@ -83,12 +83,12 @@ rest_short (t ∷ ts) = omega arith
 
 -- ---- the whole line
 module _ (version : ℕ) (l : List ℕ) (g : Progress) (rs ps ns ls : List ℤ) (keys : List ℕ) (rs' ps' ns' ls' : List ℤ) (keys' : List ℕ) where
-  pub line_deep : too_deep (tokens_of l) ≡ true → Answers (line_by version l) g rs ps ns ls keys rs' ps' ns' ls' keys' (Refused refusal.Brackets)
+  pub line_deep : too_deep (tokens_of l) ≡ true → Answers (line_by version l) g rs ps ns ls keys rs' ps' ns' ls' keys' (Err refusal.Brackets)
   unfolding one_line
   line_deep e = record { says = λ s k h p. rw e }
 
   module _ (flat : too_deep (tokens_of l) ≡ false) (t : Token) (next : ℕ) (first : (t ≡ head_of (tokens_from l 0)) × (tokens_from l next ≡ rest_of (tokens_from l 0))) where
-    by_tree : (o : Option Line) (r : Lined) → read_line (tokens_of l) ≡ o → Answers (tree_by version o) g rs ps ns ls keys rs' ps' ns' ls' keys' r → Answers (line_by version l) g rs ps ns ls keys rs' ps' ns' ls' keys' r
+    by_tree : (o : Option Line) (r : Result Progress Refusal) → read_line (tokens_of l) ≡ o → Answers (tree_by version o) g rs ps ns ls keys rs' ps' ns' ls' keys' r → Answers (line_by version l) g rs ps ns ls keys rs' ps' ns' ls' keys' r
     unfolding one_line
     by_tree o r e a = record { says = λ s k h p. rw (flat, e) (a.says s k h p) }
 
@@ -98,21 +98,21 @@ module _ (version : ℕ) (l : List ℕ) (g : Progress) (rs ps ns ls : List ℤ) 
     rest_is : rest_of (tokens_of l) ≡ tokens_from l next
     rest_is = sym (first.1 ∙ ap rest_of (from_start l))
 
-    pub line_range : (r : Lined) → t ≡ Fixed Range → Answers (tree_by version (read_range (tokens_from l next))) g rs ps ns ls keys rs' ps' ns' ls' keys' r → Answers (line_by version l) g rs ps ns ls keys rs' ps' ns' ls' keys' r
+    pub line_range : (r : Result Progress Refusal) → t ≡ Fixed Range → Answers (tree_by version (read_range (tokens_from l next))) g rs ps ns ls keys rs' ps' ns' ls' keys' r → Answers (line_by version l) g rs ps ns ls keys rs' ps' ns' ls' keys' r
     line_range r e a = by_tree (read_range (tokens_from l next)) r (range_read (tokens_of l) (head_is ∙ e) ∙ ap read_range rest_is) a
 
     bound : 8 * length (tokens_from l next) + 8 ≤ 8 * length (tokens_of l) + 8
     bound = omega (arith, rest_short (tokens_of l), ap length rest_is)
 
-    pub line_must : (r : Lined) → t ≡ Fixed Must → ((n : ℕ) → 8 * length (tokens_from l next) + 8 ≤ n → Answers (tree_by version (rule_f false n (tokens_from l next))) g rs ps ns ls keys rs' ps' ns' ls' keys' r) → Answers (line_by version l) g rs ps ns ls keys rs' ps' ns' ls' keys' r
+    pub line_must : (r : Result Progress Refusal) → t ≡ Fixed Must → ((n : ℕ) → 8 * length (tokens_from l next) + 8 ≤ n → Answers (tree_by version (rule_f false n (tokens_from l next))) g rs ps ns ls keys rs' ps' ns' ls' keys' r) → Answers (line_by version l) g rs ps ns ls keys rs' ps' ns' ls' keys' r
     line_must r e a =
         let n = 8 * length (tokens_of l) + 8 in
         by_tree (rule_f false n (tokens_from l next)) r (must_read (tokens_of l) (head_is ∙ e) ∙ ap (rule_f false n) rest_is) (a n bound)
 
-    pub line_if : (r : Lined) → t ≡ Fixed If → ((n : ℕ) → 8 * length (tokens_from l next) + 8 ≤ n → Answers (tree_by version (rule_f true n (tokens_from l next))) g rs ps ns ls keys rs' ps' ns' ls' keys' r) → Answers (line_by version l) g rs ps ns ls keys rs' ps' ns' ls' keys' r
+    pub line_if : (r : Result Progress Refusal) → t ≡ Fixed If → ((n : ℕ) → 8 * length (tokens_from l next) + 8 ≤ n → Answers (tree_by version (rule_f true n (tokens_from l next))) g rs ps ns ls keys rs' ps' ns' ls' keys' r) → Answers (line_by version l) g rs ps ns ls keys rs' ps' ns' ls' keys' r
     line_if r e a =
         let n = 8 * length (tokens_of l) + 8 in
         by_tree (rule_f true n (tokens_from l next)) r (if_read (tokens_of l) (head_is ∙ e) ∙ ap (rule_f true n) rest_is) (a n bound)
 
-    pub line_other : Other t → Answers (line_by version l) g rs ps ns ls keys rs' ps' ns' ls' keys' (Refused refusal.Form)
-    line_other o = by_tree none (Refused refusal.Form) (other_read (tokens_of l) (rw head_is o)) (record { says = λ s k h p. refl })
+    pub line_other : Other t → Answers (line_by version l) g rs ps ns ls keys rs' ps' ns' ls' keys' (Err refusal.Form)
+    line_other o = by_tree none (Err refusal.Form) (other_read (tokens_of l) (rw head_is o)) (record { says = λ s k h p. refl })

@@ -13,6 +13,7 @@ use lib.ListN.{length, take, set, length-append}
 use lib.Seq.{take-suc-set}
 use lib.Signed.{lt_z}
 use borrow.Author.Tests.{lt-ltb, le-ltb}
+use Rattle.std.specs.Prelude.{Some, None, Result, Ok, Err}
 use Rattle.whole.specs.Lists.{AllOf}
 use Rattle.whole.specs.Numbers.{Near}
 use Rattle.whole.specs.Ranges.{range}
@@ -23,7 +24,7 @@ use Rattle.sheet.specs.inner.Contents.{Proper}
 use Rattle.sheet.specs.inner.Forms.{declaration_of}
 use Rattle.sheet.specs.declared.Token.{Token}
 use Rattle.sheet.specs.declared.Token.TheVariants.{Number, Negative, Name, Fixed, Bad}
-use Rattle.sheet.specs.declared.Declaration.TheVariants.{Plain, Ranged, No}
+use Rattle.sheet.specs.declared.Declaration.TheVariants.{Plain, Ranged}
 use Rattle.meaning.specs.Plain.{place_of, is_in, asks_of}
 use Rattle.meaning.specs.Translation.{gaps, equalities}
 use Rattle.meaning.specs.Draft.{Draft, quantities_in, declare, after}
@@ -31,8 +32,6 @@ use Rattle.meaning.specs.Grounds.{any_beyond, tree_fault, refused, read, or_refu
 use Rattle.meaning.specs.declared.Refusal.{Refusal}
 use Rattle.meaning.specs.declared.Refusal.TheVariants as refusal
 use Rattle.lines.specs.declared.parts.Progress.{Progress}
-use Rattle.lines.specs.declared.parts.Lined.{Lined}
-use Rattle.lines.specs.declared.parts.Lined.TheVariants.{Next, Refused}
 use Rattle.lines.specs.inner.Emission.{put_range}
 use Rattle.lines.specs.inner.Stored.{Stored, Answers, tree_by, DeclaresIn}
 use Rattle.meaning.proofs.LinesFit.{top_near}
@@ -78,13 +77,13 @@ faultless version s k n low high a b c d =
 
 module _ (version n : ℕ) (low high : ℤ) (g : Progress) (rs ps ns ls : List ℤ) (keys : List ℕ) (rs' : List ℤ) (keys' : List ℕ) where
   -- 24: after a rule
-  pub declare_late : g.ruled ≡ true → Answers (tree_by version (some (ranged n low high))) g rs ps ns ls keys rs' ps ns ls keys' (Refused refusal.Form)
+  pub declare_late : g.ruled ≡ true → Answers (tree_by version (some (ranged n low high))) g rs ps ns ls keys rs' ps ns ls keys' (Err refusal.Form)
   unfolding grounds
   declare_late e = record { says = λ s k h p. faulty version s k n low high true _ _ _ refusal.Form (sym h.ruled ∙ e) refl refl refl refl }
 
   module _ (early : g.ruled ≡ false) where
     -- 25: declared twice
-    pub declare_twice : place_of (take g.declared keys) n < g.declared → Answers (tree_by version (some (ranged n low high))) g rs ps ns ls keys rs' ps ns ls keys' (Refused refusal.Names)
+    pub declare_twice : place_of (take g.declared keys) n < g.declared → Answers (tree_by version (some (ranged n low high))) g rs ps ns ls keys rs' ps ns ls keys' (Err refusal.Names)
     unfolding grounds
     declare_twice t =
         record {
@@ -100,13 +99,13 @@ module _ (version n : ℕ) (low high : ℤ) (g : Progress) (rs ps ns ls : List �
           is_in_is s.names n ∙ le-ltb _ _ e
 
       -- 26: low above high
-      pub declare_order : lt_z high low ≡ true → Answers (tree_by version (some (ranged n low high))) g rs ps ns ls keys rs' ps ns ls keys' (Refused refusal.Order)
+      pub declare_order : lt_z high low ≡ true → Answers (tree_by version (some (ranged n low high))) g rs ps ns ls keys rs' ps ns ls keys' (Err refusal.Order)
       unfolding grounds
       declare_order o = record { says = λ s k h p. faulty version s k n low high false false true _ refusal.Order (sym h.ruled ∙ early) (new_name s h) o refl refl }
 
       module _ (o : lt_z high low ≡ false) where
         -- 29: more than 128 quantities
-        pub declare_many : 128 ≤ g.quantities → Answers (tree_by version (some (ranged n low high))) g rs ps ns ls keys rs' ps ns ls keys' (Refused refusal.Many)
+        pub declare_many : 128 ≤ g.quantities → Answers (tree_by version (some (ranged n low high))) g rs ps ns ls keys rs' ps ns ls keys' (Err refusal.Many)
         unfolding grounds
         declare_many m =
             record {
@@ -116,7 +115,7 @@ module _ (version n : ℕ) (low high : ℤ) (g : Progress) (rs ps ns ls : List �
             }
 
         -- a quantity more
-        pub declare_next : Near low → Near high → DeclaresIn g rs keys → g.quantities < 128 → rs' ≡ put_range rs g.quantities (range (at low) (at high)) → keys' ≡ set keys g.declared n → Answers (tree_by version (some (ranged n low high))) g rs ps ns ls keys rs' ps ns ls keys' (Next (record { declared = g.declared + 1; quantities = g.quantities + 1; primitives = g.primitives; clauses = g.clauses; literals = g.literals; ruled = false }))
+        pub declare_next : Near low → Near high → DeclaresIn g rs keys → g.quantities < 128 → rs' ≡ put_range rs g.quantities (range (at low) (at high)) → keys' ≡ set keys g.declared n → Answers (tree_by version (some (ranged n low high))) g rs ps ns ls keys rs' ps ns ls keys' (Ok (record { declared = g.declared + 1; quantities = g.quantities + 1; primitives = g.primitives; clauses = g.clauses; literals = g.literals; ruled = false }))
         declare_next nl nh room q er ek =
             record {
               says = λ s k h p.
@@ -148,14 +147,14 @@ pub top_told : (version : ℕ) {top : ℤ} → top ≡ pos (top_of version) → 
 top_told version e = rw e (record { low = omega ints; high = omega (ints, top_near version) })
 
 -- what a declaration says of the tree
-is_ranged : (o : Option Line) (n : ℕ) (low high : ℤ) → declaration_of o ≡ Ranged n low high → o ≡ some (ranged n low high)
+is_ranged : (o : Option Line) (n : ℕ) (low high : ℤ) → declaration_of o ≡ Some (Ranged n low high) → o ≡ some (ranged n low high)
 is_ranged none n low high e = absurd (let z : ◌≡◌ {A = ℕ} 0 1 = cc in omega arith)
 is_ranged (some (ranged m a b)) n low high e = cc
 is_ranged (some (default m)) n low high e = absurd (let z : ◌≡◌ {A = ℕ} 0 1 = cc in omega arith)
 is_ranged (some (must d ds)) n low high e = absurd (let z : ◌≡◌ {A = ℕ} 0 1 = cc in omega arith)
 is_ranged (some (when c cs d ds)) n low high e = absurd (let z : ◌≡◌ {A = ℕ} 0 1 = cc in omega arith)
 
-is_plain : (o : Option Line) (n : ℕ) → declaration_of o ≡ Plain n → o ≡ some (default n)
+is_plain : (o : Option Line) (n : ℕ) → declaration_of o ≡ Some (Plain n) → o ≡ some (default n)
 is_plain none n e = absurd (let z : ◌≡◌ {A = ℕ} 0 1 = cc in omega arith)
 is_plain (some (ranged m a b)) n e = absurd (let z : ◌≡◌ {A = ℕ} 0 1 = cc in omega arith)
 is_plain (some (default m)) n e = cc
@@ -170,34 +169,34 @@ signed_near (Name n) h = record { low = omega ints; high = omega ints }
 signed_near (Fixed m) h = record { low = omega ints; high = omega ints }
 signed_near Bad h = record { low = omega ints; high = omega ints }
 
-pub no_declaration : (ts : List Token) → declaration_of (read_range ts) ≡ No → read_range ts ≡ none
+pub no_declaration : (ts : List Token) → declaration_of (read_range ts) ≡ None → read_range ts ≡ none
 unfolding read_range
 no_declaration [] e = refl
 no_declaration (n ∷ []) e = by (eqb (token_no n) 2) e
   where
-    by : (t : Bool) → declaration_of (cond t (some (default (payload n))) none) ≡ No → cond t (some (default (payload n))) none ≡ none
+    by : (t : Bool) → declaration_of (cond t (some (default (payload n))) none) ≡ None → cond t (some (default (payload n))) none ≡ none
     by true f = absurd (let z : ◌≡◌ {A = ℕ} 0 1 = cc in omega arith)
     by false f = refl
 no_declaration (n ∷ (l ∷ [])) e = refl
 no_declaration (n ∷ (l ∷ (h ∷ []))) e = by (eqb (token_no n) 2 && (is_signed l && is_signed h)) e
   where
-    by : (t : Bool) → declaration_of (cond t (some (ranged (payload n) (signed_of l) (signed_of h))) none) ≡ No → cond t (some (ranged (payload n) (signed_of l) (signed_of h))) none ≡ none
+    by : (t : Bool) → declaration_of (cond t (some (ranged (payload n) (signed_of l) (signed_of h))) none) ≡ None → cond t (some (ranged (payload n) (signed_of l) (signed_of h))) none ≡ none
     by true f = absurd (let z : ◌≡◌ {A = ℕ} 0 1 = cc in omega arith)
     by false f = refl
 no_declaration (n ∷ (l ∷ (h ∷ (t ∷ ts)))) e = refl
 
-pub range_near : (ts : List Token) (m : ℕ) (low high : ℤ) → AllOf Proper ts → declaration_of (read_range ts) ≡ Ranged m low high → Near low × Near high
+pub range_near : (ts : List Token) (m : ℕ) (low high : ℤ) → AllOf Proper ts → declaration_of (read_range ts) ≡ Some (Ranged m low high) → Near low × Near high
 unfolding read_range
 range_near [] m low high a e = absurd (let z : ◌≡◌ {A = ℕ} 0 1 = cc in omega arith)
 range_near (n ∷ []) m low high a e = by (eqb (token_no n) 2) e
   where
-    by : (t : Bool) → declaration_of (cond t (some (default (payload n))) none) ≡ Ranged m low high → Near low × Near high
+    by : (t : Bool) → declaration_of (cond t (some (default (payload n))) none) ≡ Some (Ranged m low high) → Near low × Near high
     by true f = absurd (let z : ◌≡◌ {A = ℕ} 0 1 = cc in omega arith)
     by false f = absurd (let z : ◌≡◌ {A = ℕ} 0 1 = cc in omega arith)
 range_near (n ∷ (l ∷ [])) m low high a e = absurd (let z : ◌≡◌ {A = ℕ} 0 1 = cc in omega arith)
 range_near (n ∷ (l ∷ (h ∷ []))) m low high a e = by (eqb (token_no n) 2 && (is_signed l && is_signed h)) e
   where
-    by : (t : Bool) → declaration_of (cond t (some (ranged (payload n) (signed_of l) (signed_of h))) none) ≡ Ranged m low high → Near low × Near high
+    by : (t : Bool) → declaration_of (cond t (some (ranged (payload n) (signed_of l) (signed_of h))) none) ≡ Some (Ranged m low high) → Near low × Near high
     by true f =
         let el : signed_of l ≡ low = cc in
         let eh : signed_of h ≡ high = cc in
@@ -205,17 +204,17 @@ range_near (n ∷ (l ∷ (h ∷ []))) m low high a e = by (eqb (token_no n) 2 &&
     by false f = absurd (let z : ◌≡◌ {A = ℕ} 0 1 = cc in omega arith)
 range_near (n ∷ (l ∷ (h ∷ (t ∷ ts)))) m low high a e = absurd (let z : ◌≡◌ {A = ℕ} 0 1 = cc in omega arith)
 
-module _ (version : ℕ) (o : Option Line) (g : Progress) (rs ps ns ls : List ℤ) (keys : List ℕ) (rs' : List ℤ) (keys' : List ℕ) (r : Lined) where
-  by_tree : (l : Line) → o ≡ some l → Answers (tree_by version (some l)) g rs ps ns ls keys rs' ps ns ls keys' r → Answers (tree_by version o) g rs ps ns ls keys rs' ps ns ls keys' r
+module _ (version : ℕ) (o : Option Line) (g : Progress) (rs ps ns ls : List ℤ) (keys : List ℕ) (rs' ps' ns' ls' : List ℤ) (keys' : List ℕ) (r : Result Progress Refusal) where
+  by_tree : (l : Line) → o ≡ some l → Answers (tree_by version (some l)) g rs ps ns ls keys rs' ps' ns' ls' keys' r → Answers (tree_by version o) g rs ps ns ls keys rs' ps' ns' ls' keys' r
   by_tree l e a = rw e a
 
-  pub says_ranged : (n : ℕ) (low high : ℤ) → declaration_of o ≡ Ranged n low high → Near low × Near high → Answers (tree_by version (some (ranged n (at low) (at high)))) g rs ps ns ls keys rs' ps ns ls keys' r → Answers (tree_by version o) g rs ps ns ls keys rs' ps ns ls keys' r
+  pub says_ranged : (n : ℕ) (low high : ℤ) → declaration_of o ≡ Some (Ranged n low high) → Near low × Near high → Answers (tree_by version (some (ranged n (at low) (at high)))) g rs ps ns ls keys rs' ps' ns' ls' keys' r → Answers (tree_by version o) g rs ps ns ls keys rs' ps' ns' ls' keys' r
   says_ranged n low high e near a = by_tree (ranged n low high) (is_ranged o n low high e) (rw (rn low near.0, rn high near.1) at a)
 
-  pub says_plain : (n : ℕ) (top : ℤ) → declaration_of o ≡ Plain n → top ≡ pos (top_of version) → Answers (tree_by version (some (ranged n (pos 0) (at top)))) g rs ps ns ls keys rs' ps ns ls keys' r → Answers (tree_by version o) g rs ps ns ls keys rs' ps ns ls keys' r
+  pub says_plain : (n : ℕ) (top : ℤ) → declaration_of o ≡ Some (Plain n) → top ≡ pos (top_of version) → Answers (tree_by version (some (ranged n (pos 0) (at top)))) g rs ps ns ls keys rs' ps' ns' ls' keys' r → Answers (tree_by version o) g rs ps ns ls keys rs' ps' ns' ls' keys' r
   says_plain n top e z a =
-      let b : Answers (tree_by version (some (ranged n (pos 0) (pos (top_of version))))) g rs ps ns ls keys rs' ps ns ls keys' r = rw (rn top (top_told version z), z) at a in
+      let b : Answers (tree_by version (some (ranged n (pos 0) (pos (top_of version))))) g rs ps ns ls keys rs' ps' ns' ls' keys' r = rw (rn top (top_told version z), z) at a in
       by_tree (default n) (is_plain o n e) (record { says = λ s k h p. rw (same_default version s k n) (b.says s k h p) })
 
-  pub says_none : r ≡ Refused refusal.Form → o ≡ none → Answers (tree_by version o) g rs ps ns ls keys rs' ps ns ls keys' r
+  pub says_none : r ≡ Err refusal.Form → o ≡ none → Answers (tree_by version o) g rs ps ns ls keys rs' ps' ns' ls' keys' r
   says_none e f = rw (e, f) (record { says = λ s k h p. refl })

@@ -8,7 +8,9 @@ use native.Mathlib.Omega.{arith}
 use lib.Dec.{leb}
 use lib.IntN.{ℤ}
 use lib.ListN.{length}
-use borrow.Author.Tests.{leb-true, leb-false, ne_eqb}
+use borrow.Author.Tests.{leb-true, leb-false}
+use Rattle.std.specs.Prelude as code
+use Rattle.std.specs.Prelude.{Some, None}
 use Rattle.sheet.specs.Grammar.{Comparison, must, when}
 use Rattle.sheet.specs.Reading.{rest_of, head_no, Read, whole, all_f, as_must, as_when, then_of}
 use Rattle.sheet.specs.inner.Steps.{tokens_from}
@@ -18,10 +20,7 @@ use Rattle.meaning.specs.Plain.{Asked, plain_c, denied, asks_of}
 use Rattle.lines.specs.inner.Emission.{emitted, Listing, list_all, ruled_as, listed_from, Rules}
 use Rattle.lines.specs.inner.Comparisons.{asked_by, asks_all, listing_of, Lists}
 use Rattle.lines.specs.declared.parts.Tally.{Tally}
-use Rattle.lines.specs.declared.parts.Listed.TheVariants.{At, Not}
-use Rattle.lines.specs.declared.parts.Ruled.{Ruled}
-use Rattle.lines.specs.declared.parts.Ruled.TheVariants.{Done, Unread}
-use Rattle.lines.proofs.ComparisonCode.{shorter}
+use Rattle.lines.proofs.ComparisonCode.{listed_to, shorter}
 use Rattle.lines.proofs.ExpressionCode.{rest_in, made_in}
 
 -- ---- what is asked
@@ -46,8 +45,8 @@ asks_when ns d p q a =
 
 -- ---- a reading with nothing behind it
 -- what the code answers where a reading ends at place i with the counts t
-abbrev ended_at : List ℕ → ℕ → Tally → Ruled
-ended_at l i t = cond (leb i (length l)) Unread (Done t.making t.count t.equals)
+abbrev ended_at : List ℕ → ℕ → Tally → code.Option Tally
+ended_at l i t = cond (leb i (length l)) None (Some t)
 
 -- the same as a listing
 abbrev finished : {A : Type 0} → (A → Listing) → Option A → Option Listing
@@ -55,10 +54,6 @@ finished f none = none
 finished f (some x) = some (f x)
 
 module _ {A : Type 0} (f : A → Listing) (l : List ℕ) (rs ps fs ss : List ℤ) where
-  unread : (o : Read A) → none ≡ emitted f o → none ≡ finished f (whole o)
-  unread none e = refl
-  unread (some p) e = let z : ◌≡◌ {A = ℕ} 0 1 = cc in absurd (omega arith)
-
   ended_is : (i : ℕ) (t : Tally) (o : Read A) → ◌≡◌ {A = Option (Listing × List Token)} (some (listing_of t rs ps fs ss, tokens_from l i)) (emitted f o) → ruled_as (ended_at l i t) rs ps fs ss ≡ finished f (whole o)
   ended_is i t none e = let z : ◌≡◌ {A = ℕ} 0 1 = cc in absurd (omega arith)
   ended_is i t (some p) e = by (leb i (length l)) refl
@@ -69,7 +64,7 @@ module _ {A : Type 0} (f : A → Listing) (l : List ℕ) (rs ps fs ss : List ℤ
       made : listing_of t rs ps fs ss ≡ f p.0
       made = ap (made_in (listing_of t rs ps fs ss)) e
 
-      by : (b : Bool) → leb i (length l) ≡ b → ruled_as (cond b Unread (Done t.making t.count t.equals)) rs ps fs ss ≡ finished f (whole (some p))
+      by : (b : Bool) → leb i (length l) ≡ b → ruled_as (cond b None (Some t)) rs ps fs ss ≡ finished f (whole (some p))
       by true q = subst (λ (ts : List Token). none ≡ finished f (whole (some (p.0, ts)))) (sym (step_cons l i (leb-true i (length l) q)) ∙ left) refl
       by false q = subst (λ (ts : List Token). some (listing_of t rs ps fs ss) ≡ finished f (whole (some (p.0, ts)))) (sym (none_at l i (leb-false i (length l) q)) ∙ left) (ap some made)
 
@@ -82,28 +77,18 @@ module _ (ns l : List ℕ) (at : ℕ) (a : Listing) (rs ps fs ss : List ℤ) whe
   as_must_lem none = refl
   as_must_lem (some p) = ap some (sym (asks_must ns (length ns) p a))
 
-  pub must_no : Lists (λ k. all_f k 21) (asks_all 21 ns) (length ns) l at a Not rs ps fs ss → Rules (λ k. as_must (whole (all_f k 21 (tokens_from l at)))) ns (length (tokens_from l at)) a Unread rs ps fs ss
-  must_no h = record { agrees = λ k b. unread demands l rs ps fs ss (all_f k 21 (tokens_from l at)) (h.agrees k (omega arith)) ∙ as_must_lem (whole (all_f k 21 (tokens_from l at))) }
-
-  pub must_is : (i : ℕ) (t : Tally) (r : Ruled) → Lists (λ k. all_f k 21) (asks_all 21 ns) (length ns) l at a (At i t) rs ps fs ss → r ≡ ended_at l i t → Rules (λ k. as_must (whole (all_f k 21 (tokens_from l at)))) ns (length (tokens_from l at)) a r rs ps fs ss
-  must_is i t r h e = record { agrees = λ k b. ap (λ (x : Ruled). ruled_as x rs ps fs ss) e ∙ ended_is demands l rs ps fs ss i t (all_f k 21 (tokens_from l at)) (h.agrees k (omega arith)) ∙ as_must_lem (whole (all_f k 21 (tokens_from l at))) }
+  pub must_is : (i : ℕ) (t : Tally) (r : code.Option Tally) → Lists (λ k. all_f k 21) (asks_all 21 ns) (length ns) l at a (listed_to i t) rs ps fs ss → r ≡ ended_at l i t → Rules (λ k. as_must (whole (all_f k 21 (tokens_from l at)))) ns (length (tokens_from l at)) a r rs ps fs ss
+  must_is i t r h e = record { agrees = λ k b. ap (λ (x : code.Option Tally). ruled_as x rs ps fs ss) e ∙ ended_is demands l rs ps fs ss i t (all_f k 21 (tokens_from l at)) (h.agrees k (omega arith)) ∙ as_must_lem (whole (all_f k 21 (tokens_from l at))) }
 
 -- ---- behind `if`
 module _ (ns l : List ℕ) (at : ℕ) (a : Listing) where
   abbrev conditions : Comparison × List Comparison → Listing
   conditions p = list_all (length ns) (asks_all 20 ns p) a
 
-  abbrev Asks : Ruled → List ℤ → List ℤ → List ℤ → List ℤ → Type 0
+  abbrev Asks : code.Option Tally → List ℤ → List ℤ → List ℤ → List ℤ → Type 0
   Asks r rs ps fs ss = Rules (λ k. then_of k (all_f k 20 (tokens_from l at))) ns (length (tokens_from l at)) a r rs ps fs ss
 
-  no_then : (k : ℕ) (o : Read (Comparison × List Comparison)) → none ≡ emitted conditions o → none ≡ listed_from ns a (then_of k o)
-  no_then k none e = refl
-  no_then k (some p) e = let z : ◌≡◌ {A = ℕ} 0 1 = cc in absurd (omega arith)
-
-  pub if_no : (rs ps fs ss : List ℤ) → Lists (λ k. all_f k 20) (asks_all 20 ns) (length ns) l at a Not rs ps fs ss → Asks Unread rs ps fs ss
-  if_no rs ps fs ss h = record { agrees = λ k b. no_then k (all_f k 20 (tokens_from l at)) (h.agrees k (omega arith)) }
-
-  module _ (i : ℕ) (t : Tally) (rs ps fs ss : List ℤ) (h : Lists (λ k. all_f k 20) (asks_all 20 ns) (length ns) l at a (At i t) rs ps fs ss) where
+  module _ (i : ℕ) (t : Tally) (rs ps fs ss : List ℤ) (h : Lists (λ k. all_f k 20) (asks_all 20 ns) (length ns) l at a (listed_to i t) rs ps fs ss) where
     -- what follows the conditions, whatever they are
     from_then : (k : ℕ) (o : Read (Comparison × List Comparison)) (x : Option Listing) → ◌≡◌ {A = Option (Listing × List Token)} (some (listing_of t rs ps fs ss, tokens_from l i)) (emitted conditions o) → ((p : Comparison × List Comparison) → conditions p ≡ listing_of t rs ps fs ss → x ≡ listed_from ns a (then_of k (some (p, tokens_from l i)))) → x ≡ listed_from ns a (then_of k o)
     from_then k none x e f = let z : ◌≡◌ {A = ℕ} 0 1 = cc in absurd (omega arith)
@@ -112,25 +97,16 @@ module _ (ns l : List ℕ) (at : ℕ) (a : Listing) where
         let made : conditions p.0 ≡ listing_of t rs ps fs ss = sym (ap (made_in (listing_of t rs ps fs ss)) e) in
         subst (λ (ts : List Token). x ≡ listed_from ns a (then_of k (some (p.0, ts)))) left (f p.0 made)
 
-    pub if_other : (rs' ps' fs' ss' : List ℤ) → (head_no (tokens_from l i) ≡ 19 → ⊥) → Asks Unread rs' ps' fs' ss'
-    if_other rs' ps' fs' ss' d = record { agrees = λ k b. from_then k (all_f k 20 (tokens_from l at)) none (h.agrees k (omega arith)) (λ p z. rw (ne_eqb (head_no (tokens_from l i)) 19 d)) }
-
     module _ (nx : ℕ) (d : head_no (tokens_from l i) ≡ 19) (q : tokens_from l nx ≡ rest_of (tokens_from l i)) where
       room : (k : ℕ) → 8 * length (tokens_from l at) + 8 ≤ k → 8 * length (tokens_from l nx) + 6 ≤ k
-      room k b = let f = h.falls i t refl in let s = shorter (tokens_from l i) in let len = ap length q in omega arith
+      room k b = let f = h.falls _ refl in let s = shorter (tokens_from l i) in let len = ap length q in omega arith
 
       as_when_lem : (p : Comparison × List Comparison) (o : Option (Comparison × List Comparison)) → conditions p ≡ listing_of t rs ps fs ss → finished (λ r. list_all (length ns) (asks_all 21 ns r) (listing_of t rs ps fs ss)) o ≡ listed_from ns a (as_when p o)
       as_when_lem p none z = refl
       as_when_lem p (some r) z = ap some (ap (list_all (length ns) (asks_all 21 ns r)) (sym z) ∙ sym (asks_when ns (length ns) p r a))
 
-      pub if_half : (rs' ps' fs' ss' : List ℤ) → Lists (λ k. all_f k 21) (asks_all 21 ns) (length ns) l nx (listing_of t rs ps fs ss) Not rs' ps' fs' ss' → Asks Unread rs' ps' fs' ss'
-      if_half rs' ps' fs' ss' g = record {
-        agrees = λ k b. from_then k (all_f k 20 (tokens_from l at)) none (h.agrees k (omega arith))
-            (λ p z. rw d (unread (λ r. list_all (length ns) (asks_all 21 ns r) (listing_of t rs ps fs ss)) l rs' ps' fs' ss' (all_f k 21 (rest_of (tokens_from l i))) (rw q at (g.agrees k (room k b))) ∙ as_when_lem p (whole (all_f k 21 (rest_of (tokens_from l i)))) z));
-      }
-
-      pub if_is : (j : ℕ) (u : Tally) (r : Ruled) (rs' ps' fs' ss' : List ℤ) → Lists (λ k. all_f k 21) (asks_all 21 ns) (length ns) l nx (listing_of t rs ps fs ss) (At j u) rs' ps' fs' ss' → r ≡ ended_at l j u → Asks r rs' ps' fs' ss'
+      pub if_is : (j : ℕ) (u : Tally) (r : code.Option Tally) (rs' ps' fs' ss' : List ℤ) → Lists (λ k. all_f k 21) (asks_all 21 ns) (length ns) l nx (listing_of t rs ps fs ss) (listed_to j u) rs' ps' fs' ss' → r ≡ ended_at l j u → Asks r rs' ps' fs' ss'
       if_is j u r rs' ps' fs' ss' g e = record {
         agrees = λ k b. from_then k (all_f k 20 (tokens_from l at)) (ruled_as r rs' ps' fs' ss') (h.agrees k (omega arith))
-            (λ p z. rw d (ap (λ (x : Ruled). ruled_as x rs' ps' fs' ss') e ∙ ended_is (λ c. list_all (length ns) (asks_all 21 ns c) (listing_of t rs ps fs ss)) l rs' ps' fs' ss' j u (all_f k 21 (rest_of (tokens_from l i))) (rw q at (g.agrees k (room k b))) ∙ as_when_lem p (whole (all_f k 21 (rest_of (tokens_from l i)))) z));
+            (λ p z. rw d (ap (λ (x : code.Option Tally). ruled_as x rs' ps' fs' ss') e ∙ ended_is (λ c. list_all (length ns) (asks_all 21 ns c) (listing_of t rs ps fs ss)) l rs' ps' fs' ss' j u (all_f k 21 (rest_of (tokens_from l i))) (rw q at (g.agrees k (room k b))) ∙ as_when_lem p (whole (all_f k 21 (rest_of (tokens_from l i)))) z));
       }

@@ -25,7 +25,7 @@ use Rattle.meaning.proofs.Definitions.{sizes}
 use Rattle.meaning.proofs.TreeSizes.{clause_few}
 use Rattle.lines.proofs.ExactPiece.{Ready}
 use Rattle.lines.proofs.RuleWrites.{Long, Noted, used_all, long_all, wide_all, noted_all}
-use Rattle.lines.proofs.RuleDraft.{Proper, asked, added, first_of, second_of, rule_ranges, rule_primitives, rule_helpers, rule_quantities, after_rule, some_size, proper_rule}
+use Rattle.lines.proofs.RuleDraft.{Proper, asked, added, first_of, second_of, rule_ranges, rule_primitives, rule_quantities, after_rule, some_size}
 
 -- before the first comparison: the sheet so far, no literal, no flag
 abbrev pub start_of : Progress → List ℤ → List ℤ → List ℤ → List ℤ → Listing
@@ -50,7 +50,6 @@ pub record Added (s : Draft) (x : Line) (g : Progress) (b : Listing) : Type 0 wh
   pub quantities : b.making.used ≡ quantities_in (rule s x)
   pub few : b.making.used ≤ 128
   pub count : b.making.count ≡ length (rule s x).made.primitives
-  pub primitives_few : b.making.count ≤ 128
   pub ranges : take (2 * b.making.used) b.ranges ≡ range_list (s.declared ++ (rule s x).made.ranges)
   pub primitives : take (4 * b.making.count) b.primitives ≡ primitive_list (rule s x).made.primitives
   pub literals : b.count ≡ length (first_of s x)
@@ -132,7 +131,6 @@ module _ {s : Draft} {g : Progress} {rs ps ns ls : List ℤ} {keys : List ℕ} (
         quantities = n.ready.used ∙ sym (rule_quantities s x);
         few = u;
         count = n.ready.count ∙ sym l;
-        primitives_few = omega (arith, n.ready.count, rule_helpers s x, (proper_rule s x r proper).primitives);
         ranges = rw n.ready.used (n.ready.ranges ∙ ap range_list (append_assoc s.declared s.made.ranges (added s x).ranges ∙ ap (λ (w : List Range). s.declared ++ w) (sym (rule_ranges s x))));
         primitives = rw n.ready.count (n.ready.primitives ∙ ap primitive_list (sym (rule_primitives s x)));
         literals = n.count;

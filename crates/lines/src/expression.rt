@@ -1,69 +1,25 @@
 // Expressions, written out as they are read: a number makes a helper, a name makes none, an operation makes one when its operands are done.
-ghost use Rattle.std.specs.Prelude.{◌≡◌, cond, eqb, length};
+ghost use Rattle.std.specs.Prelude.{cond, eqb, length};
 ghost use Rattle.whole.specs.inner.Held.{Good};
-ghost use Rattle.sheet.specs.Reading.{payload, expr_f, term_f, factor_f, atom_f};
+ghost use Rattle.sheet.specs.Reading.{token_no, expr_f, term_f, factor_f, atom_f};
+ghost use Rattle.sheet.specs.declared.Token.TheVariants.{Fixed};
 ghost use Rattle.meaning.specs.Plain.{sum, difference, plain_e, plain_t, plain_f, plain_a};
 ghost use Rattle.lines.specs.inner.Emission.{emitted_as, Emits, joined, Makes};
-ghost use Rattle.lines.specs.declared.parts.Made.TheVariants.{At};
 
-use crate::parts::{Emitted, Held, Made, Making};
-use crate::writing::{constant, difference, named, product, squared, sum};
-use sheet::Token;
-use sheet::tokens::{kind, next};
+use crate::parts::{Emitted, Equations, Held, Made, Making};
+use sheet::tokens::next;
+use sheet::{Mark, Token};
 
-// The numbers of the tokens that stand in expressions, as `kind` gives them.
-const NUMBER: u8 = 1;
-
-const NAME: u8 = 2;
-
-const OPEN: u8 = 4;
-
-const CLOSE: u8 = 5;
-
-const PLUS: u8 = 6;
-
-const MINUS: u8 = 7;
-
-const TIMES: u8 = 8;
-
-const SQUARE: u8 = 9;
-
-// What a token holds.
-fn value(t: Token) -> u64
-    ensures { result ≡ payload t }
-{
-    match t {
-        Token::Number(n) => n,
-        Token::Negative(n) => n,
-        Token::Name(n) => n,
-        Token::Fixed(_) => 0,
-        Token::Bad => 0,
-    }
-}
-
-// What was made, and where the next token starts.
-fn upto(i: usize, e: Emitted) -> Made
-    ensures { result ≡ At i e.held e.making }
-{
-    let held = e.held;
-    let making = e.making;
-    Made::At {
-        next: i,
-        held,
-        making,
-    }
-}
-
-// The sum, or the difference where the sign is not `+`.
-fn added(n: u8, a: Held, e: Emitted, ranges: &mut [i64], primitives: &mut [i64]) -> Emitted
+// The sum, or the difference where the mark is not `+`.
+fn added(mark: Mark, a: Held, e: Emitted, equations: &mut Equations) -> Emitted
     requires fact_1 { Good a.span }
     requires fact_2 { Good e.held.span }
-    ensures { Emits (joined (cond (eqb n 6) sum difference) a (emitted_as e ranges.old primitives.old)) result ranges.new primitives.new }
+    ensures { Emits (joined (cond (eqb (token_no (Fixed mark)) 6) sum difference) a (emitted_as e equations.old.ranges equations.old.primitives)) result equations.new.ranges equations.new.primitives }
 {
-    if n == PLUS {
-        return sum(a, e, ranges, primitives);
+    if mark == Mark::Plus {
+        return equations.sum(a, e);
     }
-    difference(a, e, ranges, primitives)
+    equations.difference(a, e)
 }
 
 // An expression: a term, then any number of `+` or `-` term.
@@ -73,52 +29,24 @@ pub fn expr(
     at: usize,
     keys: &[u64],
     making: Making,
-    ranges: &mut [i64],
-    primitives: &mut [i64],
-) -> Made
-    ensures { Makes expr_f (plain_e keys.now) 6 (length keys.now) line.now at making ranges.old primitives.old result ranges.new primitives.new }
+    equations: &mut Equations,
+) -> Option<Made>
+    ensures { Makes expr_f (plain_e keys.now) 6 (length keys.now) line.now at making equations.old.ranges equations.old.primitives result equations.new.ranges equations.new.primitives }
 {
-    let Made::At {
-        next: first,
-        held: h,
-        making: m,
-    } = term(line, at, keys, making, ranges, primitives)
-    else {
-        return Made::Not;
-    };
-    let mut i = first;
-    let mut e = Emitted { held: h, making: m };
+    let mut left = term(line, at, keys, making, equations)?;
     loop {
-        let s = next(line, i);
-        let t = s.token;
-        let n = kind(t);
-        if n < PLUS {
-            return upto(i, e);
-        }
-        if MINUS < n {
-            return upto(i, e);
-        }
-        let before = e.making;
-        let Made::At {
-            next: j,
-            held: b,
-            making: after,
-        } = term(line, s.next, keys, before, ranges, primitives)
-        else {
-            return Made::Not;
+        let step = next(line, left.next);
+        let Token::Fixed(mark) = step.token else {
+            return Some(left);
         };
-        let a = e.held;
-        e = added(
-            n,
-            a,
-            Emitted {
-                held: b,
-                making: after,
-            },
-            ranges,
-            primitives,
-        );
-        i = j;
+        if mark != Mark::Plus && mark != Mark::Minus {
+            return Some(left);
+        }
+        let right = term(line, step.next, keys, left.emitted.making, equations)?;
+        left = Made {
+            next: right.next,
+            emitted: added(mark, left.emitted.held, right.emitted, equations),
+        };
     }
 }
 
@@ -129,47 +57,21 @@ fn term(
     at: usize,
     keys: &[u64],
     making: Making,
-    ranges: &mut [i64],
-    primitives: &mut [i64],
-) -> Made
-    ensures { Makes term_f (plain_t keys.now) 4 (length keys.now) line.now at making ranges.old primitives.old result ranges.new primitives.new }
+    equations: &mut Equations,
+) -> Option<Made>
+    ensures { Makes term_f (plain_t keys.now) 4 (length keys.now) line.now at making equations.old.ranges equations.old.primitives result equations.new.ranges equations.new.primitives }
 {
-    let Made::At {
-        next: first,
-        held: h,
-        making: m,
-    } = factor(line, at, keys, making, ranges, primitives)
-    else {
-        return Made::Not;
-    };
-    let mut i = first;
-    let mut e = Emitted { held: h, making: m };
+    let mut left = factor(line, at, keys, making, equations)?;
     loop {
-        let s = next(line, i);
-        let t = s.token;
-        if kind(t) != TIMES {
-            return upto(i, e);
+        let step = next(line, left.next);
+        if step.token != Token::Fixed(Mark::Times) {
+            return Some(left);
         }
-        let before = e.making;
-        let Made::At {
-            next: j,
-            held: b,
-            making: after,
-        } = factor(line, s.next, keys, before, ranges, primitives)
-        else {
-            return Made::Not;
+        let right = factor(line, step.next, keys, left.emitted.making, equations)?;
+        left = Made {
+            next: right.next,
+            emitted: equations.product(left.emitted.held, right.emitted),
         };
-        let a = e.held;
-        e = product(
-            a,
-            Emitted {
-                held: b,
-                making: after,
-            },
-            ranges,
-            primitives,
-        );
-        i = j;
     }
 }
 
@@ -180,26 +82,19 @@ fn factor(
     at: usize,
     keys: &[u64],
     making: Making,
-    ranges: &mut [i64],
-    primitives: &mut [i64],
-) -> Made
-    ensures { Makes factor_f (plain_f keys.now) 2 (length keys.now) line.now at making ranges.old primitives.old result ranges.new primitives.new }
+    equations: &mut Equations,
+) -> Option<Made>
+    ensures { Makes factor_f (plain_f keys.now) 2 (length keys.now) line.now at making equations.old.ranges equations.old.primitives result equations.new.ranges equations.new.primitives }
 {
-    let Made::At {
-        next: i,
-        held: h,
-        making: m,
-    } = atom(line, at, keys, making, ranges, primitives)
-    else {
-        return Made::Not;
-    };
-    let s = next(line, i);
-    let t = s.token;
-    let e = Emitted { held: h, making: m };
-    if kind(t) == SQUARE {
-        return upto(s.next, squared(e, ranges, primitives));
+    let base = atom(line, at, keys, making, equations)?;
+    let step = next(line, base.next);
+    if step.token != Token::Fixed(Mark::Square) {
+        return Some(base);
     }
-    upto(i, e)
+    Some(Made {
+        next: step.next,
+        emitted: equations.squared(base.emitted),
+    })
 }
 
 // An atom: a number, a name, or a whole expression in brackets.
@@ -209,35 +104,31 @@ fn atom(
     at: usize,
     keys: &[u64],
     making: Making,
-    ranges: &mut [i64],
-    primitives: &mut [i64],
-) -> Made
-    ensures { Makes atom_f (plain_a keys.now) 1 (length keys.now) line.now at making ranges.old primitives.old result ranges.new primitives.new }
+    equations: &mut Equations,
+) -> Option<Made>
+    ensures { Makes atom_f (plain_a keys.now) 1 (length keys.now) line.now at making equations.old.ranges equations.old.primitives result equations.new.ranges equations.new.primitives }
 {
-    let s = next(line, at);
-    let t = s.token;
-    let n = kind(t);
-    if n == NUMBER {
-        return upto(s.next, constant(value(t), making, ranges));
+    let step = next(line, at);
+    match step.token {
+        Token::Number(n) => Some(Made {
+            next: step.next,
+            emitted: equations.constant(n, making),
+        }),
+        Token::Name(name) => Some(Made {
+            next: step.next,
+            emitted: equations.named(name, keys, making),
+        }),
+        Token::Fixed(Mark::Open) => {
+            let inside = expr(line, step.next, keys, making, equations)?;
+            let close = next(line, inside.next);
+            if close.token != Token::Fixed(Mark::Close) {
+                return None;
+            }
+            Some(Made {
+                next: close.next,
+                emitted: inside.emitted,
+            })
+        }
+        _ => None,
     }
-    if n == NAME {
-        return upto(s.next, named(value(t), keys, making, ranges));
-    }
-    if n != OPEN {
-        return Made::Not;
-    }
-    let Made::At {
-        next: i,
-        held,
-        making: m,
-    } = expr(line, s.next, keys, making, ranges, primitives)
-    else {
-        return Made::Not;
-    };
-    let u = next(line, i);
-    let c = u.token;
-    if kind(c) != CLOSE {
-        return Made::Not;
-    }
-    upto(u.next, Emitted { held, making: m })
 }

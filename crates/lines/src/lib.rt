@@ -3,7 +3,6 @@
 #![tactic(auto)]
 
 mod expression;
-pub mod front;
 pub mod line;
 pub mod parts;
 mod rule;

@@ -1,5 +1,5 @@
 // One line of a sheet: 23, then a range line or a rule by its first token.
-ghost use Rattle.std.specs.Prelude.{◌≡◌, ℕ, ◌+◌, ◌*◌, ◌≤◌, List, ℤ, pos, length};
+ghost use Rattle.std.specs.Prelude.{◌≡◌, ℕ, ◌+◌, ◌*◌, ◌≤◌, pos, length};
 ghost use Rattle.std.proofs.Math.Option.{some};
 ghost use Rattle.whole.specs.Numbers.{Near};
 ghost use Rattle.sheet.specs.Grammar.{ranged};
@@ -8,10 +8,9 @@ ghost use Rattle.sheet.specs.inner.Steps.{tokens_from};
 ghost use Rattle.meaning.specs.Grounds.{top_of};
 ghost use Rattle.lines.specs.inner.Emission.{Rules};
 ghost use Rattle.lines.specs.inner.Comparisons.{listing_of};
-ghost use Rattle.lines.specs.inner.Stored.{Standing, Answers, line_by, tree_by, rule_f, Appended, Roomy, DeclaresIn};
+ghost use Rattle.lines.specs.inner.Stored.{Full, Standing, Answers, line_by, tree_by, rule_f, Appended, Roomy, DeclaresIn};
 
-use crate::front::copy;
-use crate::parts::{Lined, Making, Progress, Ruled};
+use crate::parts::{Equations, Lists, Making, Progress, Tally};
 use crate::rule::{read_if, read_must};
 use crate::writing::{place_of, put_range};
 use meaning::Refusal;
@@ -40,31 +39,30 @@ fn declare(
     low: i64,
     high: i64,
     done: Progress,
-    ranges: &mut [i64],
-    keys: &mut [u64],
-) -> Lined
+    lists: &mut Lists,
+) -> Result<Progress, Refusal>
     requires near_1 { Near low }
     requires near_2 { Near high }
-    requires declares_in { DeclaresIn done ranges.old keys.old }
-    ensures { (version : ℕ) (ps ns ls : List ℤ) → Answers (tree_by version (some (ranged name low high))) done ranges.old ps ns ls keys.old ranges.new ps ns ls keys.new result }
+    requires declares_in { DeclaresIn done lists.old.equations.ranges lists.old.keys }
+    ensures { (version : ℕ) → Answers (tree_by version (some (ranged name low high))) done lists.old.equations.ranges lists.old.equations.primitives lists.old.lengths lists.old.literals lists.old.keys lists.new.equations.ranges lists.new.equations.primitives lists.new.lengths lists.new.literals lists.new.keys result }
 {
     if done.ruled {
-        return Lined::Refused(Refusal::Form);
+        return Err(Refusal::Form);
     }
     let count = done.declared;
-    if place_of(&keys[..count], name) < count {
-        return Lined::Refused(Refusal::Names);
+    if place_of(&lists.keys[..count], name) < count {
+        return Err(Refusal::Names);
     }
     if high < low {
-        return Lined::Refused(Refusal::Order);
+        return Err(Refusal::Order);
     }
     let quantity = done.quantities;
     if MOST <= quantity {
-        return Lined::Refused(Refusal::Many);
+        return Err(Refusal::Many);
     }
-    put_range(ranges, quantity, Range { low, high });
-    keys[count] = name;
-    Lined::Next(Progress {
+    put_range(&mut lists.equations.ranges, quantity, Range { low, high });
+    lists.keys[count] = name;
+    Ok(Progress {
         declared: count + 1,
         quantities: quantity + 1,
         primitives: done.primitives,
@@ -80,57 +78,51 @@ fn range_line(
     at: usize,
     version: u64,
     done: Progress,
-    ranges: &mut [i64],
-    keys: &mut [u64],
-) -> Lined
-    requires { DeclaresIn done ranges.old keys.old }
-    ensures { (ps ns ls : List ℤ) → Answers (tree_by version (read_range (tokens_from line.now at))) done ranges.old ps ns ls keys.old ranges.new ps ns ls keys.new result }
+    lists: &mut Lists,
+) -> Result<Progress, Refusal>
+    requires { DeclaresIn done lists.old.equations.ranges lists.old.keys }
+    ensures { Answers (tree_by version (read_range (tokens_from line.now at))) done lists.old.equations.ranges lists.old.equations.primitives lists.old.lengths lists.old.literals lists.old.keys lists.new.equations.ranges lists.new.equations.primitives lists.new.lengths lists.new.literals lists.new.keys result }
 {
-    let said = declaration(line, at);
+    let said = declaration(line, at).ok_or(Refusal::Form)?;
     match said {
-        Declaration::Plain { name } => declare(name, 0, top_of(version), done, ranges, keys),
-        Declaration::Ranged { name, low, high } => declare(name, low, high, done, ranges, keys),
-        Declaration::No => Lined::Refused(Refusal::Form),
+        Declaration::Plain { name } => declare(name, 0, top_of(version), done, lists),
+        Declaration::Ranged { name, low, high } => declare(name, low, high, done, lists),
     }
 }
 
 // The clause of a rule, or the two clauses of an equality demand: their lengths, the literals of the second, and the counts.
 fn append(
     done: Progress,
-    making: Making,
-    count: usize,
-    equals: usize,
+    tally: Tally,
     lengths: &mut [i64],
     literals: &mut [i64],
     seconds: &[i64],
 ) -> Progress
-    requires { Roomy done count lengths.old literals.old seconds.now }
-    ensures { Appended done making count equals lengths.old literals.old seconds.now lengths.new literals.new result }
+    requires { Roomy done tally.count lengths.old literals.old seconds.now }
+    ensures { Appended done tally.making tally.count tally.equals lengths.old literals.old seconds.now lengths.new literals.new result }
 {
     let at = done.clauses;
-    let size = count as i64;
-    lengths[at] = size;
-    if equals == 0 {
-        return Progress {
-            declared: done.declared,
-            quantities: making.used,
-            primitives: making.count,
-            clauses: at + 1,
-            literals: done.literals + count,
-            ruled: true,
-        };
-    }
-    lengths[at + 1] = size;
-    let end = 3 * count;
-    let behind = 3 * (done.literals + count);
-    copy(&seconds[..end], &mut literals[behind..]);
-    Progress {
+    let count = tally.count;
+    lengths[at] = count as i64;
+    let one = Progress {
         declared: done.declared,
-        quantities: making.used,
-        primitives: making.count,
+        quantities: tally.making.used,
+        primitives: tally.making.count,
+        clauses: at + 1,
+        literals: done.literals + count,
+        ruled: true,
+    };
+    if tally.equals == 0 {
+        return one;
+    }
+    lengths[at + 1] = count as i64;
+    let size = 3 * count;
+    let behind = 3 * one.literals;
+    literals[behind..behind + size].copy_from_slice(&seconds[..size]);
+    Progress {
         clauses: at + 2,
         literals: done.literals + 2 * count,
-        ruled: true,
+        ..one
     }
 }
 
@@ -141,17 +133,16 @@ fn read_part(
     conditional: bool,
     keys: &[u64],
     making: Making,
-    ranges: &mut [i64],
-    primitives: &mut [i64],
+    equations: &mut Equations,
     firsts: &mut [i64],
     seconds: &mut [i64],
-) -> Ruled
-    ensures { Rules (λ k. rule_f conditional k (tokens_from line.now at)) keys.now (length (tokens_from line.now at)) (listing_of (record { making = making; count = 0; equals = 0 }) ranges.old primitives.old firsts.old seconds.old) result ranges.new primitives.new firsts.new seconds.new }
+) -> Option<Tally>
+    ensures { Rules (λ k. rule_f conditional k (tokens_from line.now at)) keys.now (length (tokens_from line.now at)) (listing_of (record { making = making; count = 0; equals = 0 }) equations.old.ranges equations.old.primitives firsts.old seconds.old) result equations.new.ranges equations.new.primitives firsts.new seconds.new }
 {
     if conditional {
-        return read_if(line, at, keys, making, ranges, primitives, firsts, seconds);
+        return read_if(line, at, keys, making, equations, firsts, seconds);
     }
-    read_must(line, at, keys, making, ranges, primitives, firsts, seconds)
+    read_must(line, at, keys, making, equations, firsts, seconds)
 }
 
 // A rule, from behind its first token: 24, 25, 27, 28, 29.
@@ -160,14 +151,10 @@ fn rule_line(
     at: usize,
     conditional: bool,
     done: Progress,
-    ranges: &mut [i64],
-    primitives: &mut [i64],
-    lengths: &mut [i64],
-    literals: &mut [i64],
-    keys: &[u64],
-) -> Lined
-    requires { Standing done ranges.old primitives.old lengths.old literals.old keys.now }
-    ensures { (version n : ℕ) → 8 * length (tokens_from line.now at) + 8 ≤ n → Answers (tree_by version (rule_f conditional n (tokens_from line.now at))) done ranges.old primitives.old lengths.old literals.old keys.now ranges.new primitives.new lengths.new literals.new keys.now result }
+    lists: &mut Lists,
+) -> Result<Progress, Refusal>
+    requires { Standing done lists.old.equations.ranges lists.old.equations.primitives lists.old.lengths lists.old.literals lists.old.keys }
+    ensures { (version n : ℕ) → 8 * length (tokens_from line.now at) + 8 ≤ n → Answers (tree_by version (rule_f conditional n (tokens_from line.now at))) done lists.old.equations.ranges lists.old.equations.primitives lists.old.lengths lists.old.literals lists.old.keys lists.new.equations.ranges lists.new.equations.primitives lists.new.lengths lists.new.literals lists.new.keys result }
 {
     let mut seconds = [0i64; 768];
     let declared = done.declared;
@@ -178,71 +165,76 @@ fn rule_line(
         unknown: false,
         wide: false,
     };
-    let ruled = read_part(
+    let tally = read_part(
         line,
         at,
         conditional,
-        &keys[..declared],
+        &lists.keys[..declared],
         none,
-        ranges,
-        primitives,
-        &mut literals[start..],
+        &mut lists.equations,
+        &mut lists.literals[start..],
         &mut seconds,
-    );
-    let Ruled::Done {
-        making,
-        count,
-        equals,
-    } = ruled
-    else {
-        return Lined::Refused(Refusal::Form);
-    };
+    )
+    .ok_or(Refusal::Form)?;
+    let making = tally.making;
     if making.unknown {
-        return Lined::Refused(Refusal::Names);
+        return Err(Refusal::Names);
     }
-    if 1 < equals {
-        return Lined::Refused(Refusal::Equalities);
+    if 1 < tally.equals {
+        return Err(Refusal::Equalities);
     }
     if making.wide {
-        return Lined::Refused(Refusal::Beyond);
+        return Err(Refusal::Beyond);
     }
     if MOST < making.used {
-        return Lined::Refused(Refusal::Many);
+        return Err(Refusal::Many);
     }
-    let more = append(done, making, count, equals, lengths, literals, &seconds);
-    Lined::Next(more)
+    Ok(append(
+        done,
+        tally,
+        &mut lists.lengths,
+        &mut lists.literals,
+        &seconds,
+    ))
 }
 
-// Inner: one line, read into the lists behind what is there.
+// One line by its first token: 23 where it is too deep, 24 where it is none of the forms.
+fn by_first(
+    line: &[u8],
+    version: u64,
+    done: Progress,
+    lists: &mut Lists,
+) -> Result<Progress, Refusal>
+    requires { Standing done lists.old.equations.ranges lists.old.equations.primitives lists.old.lengths lists.old.literals lists.old.keys }
+    ensures { Answers (line_by version line.now) done lists.old.equations.ranges lists.old.equations.primitives lists.old.lengths lists.old.literals lists.old.keys lists.new.equations.ranges lists.new.equations.primitives lists.new.lengths lists.new.literals lists.new.keys result }
+{
+    if deep(line) {
+        return Err(Refusal::Brackets);
+    }
+    let first = next(line, 0);
+    let Token::Fixed(mark) = first.token else {
+        return Err(Refusal::Form);
+    };
+    match mark {
+        Mark::Range => range_line(line, first.next, version, done, lists),
+        Mark::Must => rule_line(line, first.next, false, done, lists),
+        Mark::If => rule_line(line, first.next, true, done, lists),
+        _ => Err(Refusal::Form),
+    }
+}
+
+// Inner: one line, read into the lists behind what is there; the lists keep their full sizes.
 pub fn read_line(
     line: &[u8],
     version: u64,
     done: Progress,
-    ranges: &mut [i64],
-    primitives: &mut [i64],
-    lengths: &mut [i64],
-    literals: &mut [i64],
-    keys: &mut [u64],
-) -> Lined
-    requires { Standing done ranges.old primitives.old lengths.old literals.old keys.old }
-    ensures { Answers (line_by version line.now) done ranges.old primitives.old lengths.old literals.old keys.old ranges.new primitives.new lengths.new literals.new keys.new result }
+    lists: &mut Lists,
+) -> Result<Progress, Refusal>
+    requires { Standing done lists.old.equations.ranges lists.old.equations.primitives lists.old.lengths lists.old.literals lists.old.keys }
+    ensures answers { Answers (line_by version line.now) done lists.old.equations.ranges lists.old.equations.primitives lists.old.lengths lists.old.literals lists.old.keys lists.new.equations.ranges lists.new.equations.primitives lists.new.lengths lists.new.literals lists.new.keys result }
+    ensures full { Full lists.new.equations.ranges lists.new.equations.primitives lists.new.lengths lists.new.literals lists.new.keys }
 {
-    if deep(line) {
-        return Lined::Refused(Refusal::Brackets);
-    }
-    let first = next(line, 0);
-    let token = first.token;
-    let Token::Fixed(mark) = token else {
-        return Lined::Refused(Refusal::Form);
-    };
-    match mark {
-        Mark::Range => range_line(line, first.next, version, done, ranges, keys),
-        Mark::Must => rule_line(
-            line, first.next, false, done, ranges, primitives, lengths, literals, keys,
-        ),
-        Mark::If => rule_line(
-            line, first.next, true, done, ranges, primitives, lengths, literals, keys,
-        ),
-        _ => Lined::Refused(Refusal::Form),
-    }
+    let read = by_first(line, version, done, lists);
+    lists.full();
+    read
 }

@@ -1,6 +1,47 @@
 // What the readers of a line hand to one another, and to the walk through all lines.
-use meaning::Refusal;
+ghost use Rattle.std.specs.Prelude.{◌≡◌, length};
+ghost use Rattle.lines.specs.inner.Stored.{Full};
+
 use whole::Range;
+
+// What expressions write: the ranges of the quantities, and the primitives.
+#[derive(Drop)]
+pub struct Equations {
+    pub ranges: [i64; 256],
+    pub primitives: [i64; 1024],
+}
+
+// Lists of full size for the lines to be read into: what expressions write, the lengths of the clauses, their literals, and the names of the
+// declared quantities.
+#[derive(Drop)]
+pub struct Lists {
+    pub equations: Equations,
+    pub lengths: [i64; 256],
+    pub literals: [i64; 3072],
+    pub keys: [u64; 128],
+}
+
+impl Equations {
+    // The lists have their full sizes: proofs learn it here, and nothing runs.
+    fn full(&self)
+        ensures { (length self.now.ranges ≡ 256) × (length self.now.primitives ≡ 1024) }
+    {
+        prove!(self.ranges.len() == 256);
+        prove!(self.primitives.len() == 1024);
+    }
+}
+
+impl Lists {
+    // The lists have their full sizes: proofs learn it here, and nothing runs.
+    pub(crate) fn full(&self)
+        ensures { Full self.now.equations.ranges self.now.equations.primitives self.now.lengths self.now.literals self.now.keys }
+    {
+        self.equations.full();
+        prove!(self.lengths.len() == 256);
+        prove!(self.literals.len() == 3072);
+        prove!(self.keys.len() == 128);
+    }
+}
 
 // How many quantities and primitives there are, whether a name was undeclared, and whether a range left plus or minus M.
 #[derive(Clone, Copy)]
@@ -25,15 +66,18 @@ pub struct Emitted {
     pub making: Making,
 }
 
-// What reading a part of an expression made, and where the next token starts; or that there is no such part.
+// What reading a part of an expression made, and where the next token starts.
 #[derive(Clone, Copy)]
-pub enum Made {
-    At {
-        next: usize,
-        held: Held,
-        making: Making,
-    },
-    Not,
+pub struct Made {
+    pub next: usize,
+    pub emitted: Emitted,
+}
+
+// Which of the two clauses of an equality demand.
+#[derive(Clone, Copy)]
+pub enum Clause {
+    First,
+    Second,
 }
 
 // The counts, how many literals a clause has so far, and how many equality demands there were, up to two.
@@ -44,29 +88,11 @@ pub struct Tally {
     pub equals: usize,
 }
 
-// What listing comparisons made, and where the next token starts; or that they are not of the form.
+// What listing comparisons made, and where the next token starts.
 #[derive(Clone, Copy)]
-pub enum Listed {
-    At { next: usize, tally: Tally },
-    Not,
-}
-
-// What reading the comparisons of a rule made: the counts, how many literals, and how many equality demands, up to two; or that they are not of the form.
-#[derive(Clone, Copy)]
-pub enum Ruled {
-    Done {
-        making: Making,
-        count: usize,
-        equals: usize,
-    },
-    Unread,
-}
-
-// What a line comes to: the counts so far, or the ground it is refused on.
-#[derive(Clone, Copy)]
-pub enum Lined {
-    Next(Progress),
-    Refused(Refusal),
+pub struct Listed {
+    pub next: usize,
+    pub tally: Tally,
 }
 
 // How far the sheet has been read: the counts so far, and whether a rule was met.

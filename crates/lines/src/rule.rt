@@ -1,43 +1,36 @@
 // Rules: comparisons read one after the other, each with its difference made and its literals listed into two clauses, which are alike but
 // for an equality demand.
-ghost use Rattle.std.specs.Prelude.{◌≡◌, cond, List, ◌≤◌, leb, ℤ, length};
-ghost use Rattle.sheet.specs.Reading.{sign_of, comparison_f, all_f, «whole», as_must, then_of};
+ghost use Rattle.std.specs.Prelude.{◌≡◌, cond, eqb, ◌&&◌, List, leb, ℤ, length, Some, None};
+ghost use Rattle.sheet.specs.Reading.{token_no, sign_of, comparison_f, all_f, «whole», as_must, then_of};
 ghost use Rattle.sheet.specs.inner.Steps.{tokens_from};
+ghost use Rattle.sheet.specs.declared.Token.TheVariants.{Fixed};
 ghost use Rattle.meaning.specs.Plain.{opposite};
-ghost use Rattle.meaning.specs.Translation.{half_of, literals_for, equal};
+ghost use Rattle.meaning.specs.Translation.{literals_for, equal};
 ghost use Rattle.lines.specs.inner.Emission.{bump, put_literal, put_literals, count_literals, more_equals, emitted_as, listed, Rules};
 ghost use Rattle.lines.specs.inner.Comparisons.{turn_of, turned_by, asks_one, asks_all, listing_of, Lists};
-ghost use Rattle.lines.specs.declared.parts.Ruled.TheVariants.{Done, Unread};
 
 use crate::expression::expr;
-use crate::parts::{Emitted, Listed, Made, Making, Ruled, Tally};
-use crate::writing::{difference, one_more, put_literal};
+use crate::parts::{Clause, Emitted, Equations, Listed, Making, Tally};
+use crate::writing::{one_more, put_literal};
 use problem::Literal;
-use sheet::Sign;
-use sheet::tokens::{kind, next};
+use sheet::tokens::next;
+use sheet::{Mark, Sign, Token};
 
-// The numbers of the marks of rules, as `kind` gives them; the signs of comparisons stand between the first two.
-const FIRST_SIGN: u8 = 10;
-
-const LAST_SIGN: u8 = 15;
-
-const THEN: u8 = 19;
-
-const AND: u8 = 20;
-
-const OR: u8 = 21;
-
-// The sign that a token with this number is.
-fn sign_of(n: u8) -> Sign
-    ensures { result ≡ sign_of n }
+// The sign that a token is, if it is one.
+fn sign_of(t: Token) -> Option<Sign>
+    ensures { result ≡ cond (leb 10 (token_no t) && leb (token_no t) 15) (Some (sign_of (token_no t))) None }
 {
-    match n {
-        10 => Sign::AtMost,
-        11 => Sign::Below,
-        12 => Sign::AtLeast,
-        13 => Sign::Above,
-        14 => Sign::Equal,
-        _ => Sign::Differ,
+    let Token::Fixed(mark) = t else {
+        return None;
+    };
+    match mark {
+        Mark::AtMost => Some(Sign::AtMost),
+        Mark::Below => Some(Sign::Below),
+        Mark::AtLeast => Some(Sign::AtLeast),
+        Mark::Above => Some(Sign::Above),
+        Mark::Equal => Some(Sign::Equal),
+        Mark::Differ => Some(Sign::Differ),
+        _ => None,
     }
 }
 
@@ -56,50 +49,21 @@ fn opposite(s: Sign) -> Sign
 }
 
 // The sign to list: between `and`, in the if part, the opposite.
-fn turned(mark: u8, s: Sign) -> Sign
-    ensures { result ≡ turned_by mark s }
+fn turned(mark: Mark, s: Sign) -> Sign
+    ensures { result ≡ turned_by (token_no (Fixed mark)) s }
 {
-    if mark == AND {
+    if mark == Mark::And {
         return opposite(s);
     }
     s
 }
 
-// How many equality demands a sign is.
-fn equal_of(s: Sign) -> usize
-    ensures { (result ≡ equal s) × (result ≤ 1) }
-{
-    match s {
-        Sign::AtMost => 0,
-        Sign::Below => 0,
-        Sign::AtLeast => 0,
-        Sign::Above => 0,
-        Sign::Equal => 1,
-        Sign::Differ => 0,
-    }
-}
-
 // The equality demands with this sign's, up to two.
+#[tactic(auto, unfolding(meaning::specs::Translation::equal))]
 fn more_equals(n: usize, s: Sign) -> usize
     ensures { result ≡ more_equals n (equal s) }
 {
-    if n < 2 { n + equal_of(s) } else { n }
-}
-
-// An equality demand is at most 0 in the first clause, at least 0 in the second.
-fn half(second: bool, d: usize) -> Literal
-    ensures { result ≡ half_of (turn_of second) d }
-{
-    if second {
-        return Literal::AtLeast {
-            quantity: d,
-            bound: 0,
-        };
-    }
-    Literal::AtMost {
-        quantity: d,
-        bound: 0,
-    }
+    if s == Sign::Equal && n < 2 { n + 1 } else { n }
 }
 
 // A literal more.
@@ -110,61 +74,25 @@ fn put(list: &mut [i64], i: usize, l: Literal) -> usize
     one_more(i)
 }
 
-// The literals that a sign asks of the difference d, in the first clause or in the second.
-fn put_literals(list: &mut [i64], i: usize, sign: Sign, second: bool, d: usize) -> usize
-    ensures { (list.new ≡ put_literals list.old i (literals_for (turn_of second) sign d)) × (result ≡ count_literals i (literals_for (turn_of second) sign d)) }
+// The literals that a sign asks of the difference d; an equality demand is at most 0 in the first clause, at least 0 in the second.
+#[tactic(auto, unfolding(meaning::specs::Translation::half_of, meaning::specs::Translation::literals_for, crate::specs::inner::Emission::put_literals, crate::specs::inner::Emission::count_literals))]
+fn put_literals(list: &mut [i64], i: usize, sign: Sign, clause: Clause, d: usize) -> usize
+    ensures { (list.new ≡ put_literals list.old i (literals_for (turn_of clause) sign d)) × (result ≡ count_literals i (literals_for (turn_of clause) sign d)) }
 {
+    let at_most = |bound| Literal::AtMost { quantity: d, bound };
+    let at_least = |bound| Literal::AtLeast { quantity: d, bound };
     match sign {
-        Sign::AtMost => put(
-            list,
-            i,
-            Literal::AtMost {
-                quantity: d,
-                bound: 0,
-            },
-        ),
-        Sign::Below => put(
-            list,
-            i,
-            Literal::AtMost {
-                quantity: d,
-                bound: -1,
-            },
-        ),
-        Sign::AtLeast => put(
-            list,
-            i,
-            Literal::AtLeast {
-                quantity: d,
-                bound: 0,
-            },
-        ),
-        Sign::Above => put(
-            list,
-            i,
-            Literal::AtLeast {
-                quantity: d,
-                bound: 1,
-            },
-        ),
-        Sign::Equal => put(list, i, half(second, d)),
+        Sign::AtMost => put(list, i, at_most(0)),
+        Sign::Below => put(list, i, at_most(-1)),
+        Sign::AtLeast => put(list, i, at_least(0)),
+        Sign::Above => put(list, i, at_least(1)),
+        Sign::Equal => match clause {
+            Clause::First => put(list, i, at_most(0)),
+            Clause::Second => put(list, i, at_least(0)),
+        },
         Sign::Differ => {
-            let j = put(
-                list,
-                i,
-                Literal::AtMost {
-                    quantity: d,
-                    bound: -1,
-                },
-            );
-            put(
-                list,
-                j,
-                Literal::AtLeast {
-                    quantity: d,
-                    bound: 1,
-                },
-            )
+            let next = put(list, i, at_most(-1));
+            put(list, next, at_least(1))
         }
     }
 }
@@ -173,12 +101,11 @@ fn put_literals(list: &mut [i64], i: usize, sign: Sign, second: bool, d: usize) 
 fn list(sign: Sign, e: Emitted, tally: Tally, firsts: &mut [i64], seconds: &mut [i64]) -> Tally
     ensures { (rs ps : List ℤ) → listing_of result rs ps firsts.new seconds.new ≡ listed sign (emitted_as e rs ps) (listing_of tally rs ps firsts.old seconds.old) }
 {
-    let d = e.held;
-    let making = e.making;
-    let count = put_literals(firsts, tally.count, sign, false, d.place);
-    put_literals(seconds, tally.count, sign, true, d.place);
+    let d = e.held.place;
+    let count = put_literals(firsts, tally.count, sign, Clause::First, d);
+    put_literals(seconds, tally.count, sign, Clause::Second, d);
     Tally {
-        making,
+        making: e.making,
         count,
         equals: more_equals(tally.equals, sign),
     }
@@ -189,118 +116,65 @@ fn comparison(
     line: &[u8],
     at: usize,
     keys: &[u64],
-    mark: u8,
+    mark: Mark,
     tally: Tally,
-    ranges: &mut [i64],
-    primitives: &mut [i64],
+    equations: &mut Equations,
     firsts: &mut [i64],
     seconds: &mut [i64],
-) -> Listed
-    ensures { Lists comparison_f (asks_one mark keys.now) (length keys.now) line.now at (listing_of tally ranges.old primitives.old firsts.old seconds.old) result ranges.new primitives.new firsts.new seconds.new }
+) -> Option<Listed>
+    ensures { Lists comparison_f (asks_one (token_no (Fixed mark)) keys.now) (length keys.now) line.now at (listing_of tally equations.old.ranges equations.old.primitives firsts.old seconds.old) result equations.new.ranges equations.new.primitives firsts.new seconds.new }
 {
-    let before = tally.making;
-    let Made::At {
-        next: i,
-        held: a,
-        making: m,
-    } = expr(line, at, keys, before, ranges, primitives)
-    else {
-        return Listed::Not;
-    };
-    let s = next(line, i);
-    let t = s.token;
-    let n = kind(t);
-    if n < FIRST_SIGN {
-        return Listed::Not;
-    }
-    if LAST_SIGN < n {
-        return Listed::Not;
-    }
-    let Made::At {
-        next: j,
-        held: b,
-        making: after,
-    } = expr(line, s.next, keys, m, ranges, primitives)
-    else {
-        return Listed::Not;
-    };
-    let d = difference(
-        a,
-        Emitted {
-            held: b,
-            making: after,
-        },
-        ranges,
-        primitives,
-    );
-    let sign = turned(mark, sign_of(n));
-    Listed::At {
-        next: j,
-        tally: list(sign, d, tally, firsts, seconds),
-    }
+    let left = expr(line, at, keys, tally.making, equations)?;
+    let step = next(line, left.next);
+    let sign = sign_of(step.token)?;
+    let right = expr(line, step.next, keys, left.emitted.making, equations)?;
+    let gap = equations.difference(left.emitted.held, right.emitted);
+    Some(Listed {
+        next: right.next,
+        tally: list(turned(mark, sign), gap, tally, firsts, seconds),
+    })
 }
 
-// Comparisons with the mark that has this number between them.
+// Whether a token is this mark.
+fn is(t: Token, mark: Mark) -> bool
+    ensures { result ≡ eqb (token_no t) (token_no (Fixed mark)) }
+{
+    t == Token::Fixed(mark)
+}
+
+// Comparisons with this mark between them.
 fn comparisons(
     line: &[u8],
     at: usize,
     keys: &[u64],
-    mark: u8,
+    mark: Mark,
     tally: Tally,
-    ranges: &mut [i64],
-    primitives: &mut [i64],
+    equations: &mut Equations,
     firsts: &mut [i64],
     seconds: &mut [i64],
-) -> Listed
-    ensures { Lists (λ k. all_f k mark) (asks_all mark keys.now) (length keys.now) line.now at (listing_of tally ranges.old primitives.old firsts.old seconds.old) result ranges.new primitives.new firsts.new seconds.new }
+) -> Option<Listed>
+    ensures { Lists (λ k. all_f k (token_no (Fixed mark))) (asks_all (token_no (Fixed mark)) keys.now) (length keys.now) line.now at (listing_of tally equations.old.ranges equations.old.primitives firsts.old seconds.old) result equations.new.ranges equations.new.primitives firsts.new seconds.new }
 {
-    let Listed::At {
-        next: first,
-        tally: one,
-    } = comparison(
-        line, at, keys, mark, tally, ranges, primitives, firsts, seconds,
-    )
-    else {
-        return Listed::Not;
-    };
-    let mut i = first;
-    let mut all = one;
+    let mut all = comparison(line, at, keys, mark, tally, equations, firsts, seconds)?;
     loop {
-        let s = next(line, i);
-        let t = s.token;
-        if kind(t) != mark {
-            return Listed::At {
-                next: i,
-                tally: all,
-            };
+        let step = next(line, all.next);
+        if !is(step.token, mark) {
+            return Some(all);
         }
-        let Listed::At {
-            next: j,
-            tally: more,
-        } = comparison(
-            line, s.next, keys, mark, all, ranges, primitives, firsts, seconds,
-        )
-        else {
-            return Listed::Not;
-        };
-        all = more;
-        i = j;
+        all = comparison(
+            line, step.next, keys, mark, all.tally, equations, firsts, seconds,
+        )?;
     }
 }
 
 // What was listed, if no token is left.
-fn ended(line: &[u8], at: usize, tally: Tally) -> Ruled
-    ensures { result ≡ cond (leb at (length line.now)) Unread (Done tally.making tally.count tally.equals) }
+fn ended(line: &[u8], listed: Listed) -> Option<Tally>
+    ensures { result ≡ cond (leb listed.next (length line.now)) None (Some listed.tally) }
 {
-    if at <= line.len() {
-        return Ruled::Unread;
+    if listed.next <= line.len() {
+        return None;
     }
-    let making = tally.making;
-    Ruled::Done {
-        making,
-        count: tally.count,
-        equals: tally.equals,
-    }
+    Some(listed.tally)
 }
 
 // Inner: the demands behind `must`, read and listed.
@@ -309,24 +183,19 @@ pub fn read_must(
     at: usize,
     keys: &[u64],
     making: Making,
-    ranges: &mut [i64],
-    primitives: &mut [i64],
+    equations: &mut Equations,
     firsts: &mut [i64],
     seconds: &mut [i64],
-) -> Ruled
-    ensures { Rules (λ k. as_must («whole» (all_f k 21 (tokens_from line.now at)))) keys.now (length (tokens_from line.now at)) (listing_of (record { making = making; count = 0; equals = 0 }) ranges.old primitives.old firsts.old seconds.old) result ranges.new primitives.new firsts.new seconds.new }
+) -> Option<Tally>
+    ensures { Rules (λ k. as_must («whole» (all_f k 21 (tokens_from line.now at)))) keys.now (length (tokens_from line.now at)) (listing_of (record { making = making; count = 0; equals = 0 }) equations.old.ranges equations.old.primitives firsts.old seconds.old) result equations.new.ranges equations.new.primitives firsts.new seconds.new }
 {
     let none = Tally {
         making,
         count: 0,
         equals: 0,
     };
-    let Listed::At { next: i, tally } = comparisons(
-        line, at, keys, OR, none, ranges, primitives, firsts, seconds,
-    ) else {
-        return Ruled::Unread;
-    };
-    ended(line, i, tally)
+    let demands = comparisons(line, at, keys, Mark::Or, none, equations, firsts, seconds)?;
+    ended(line, demands)
 }
 
 // Inner: the conditions behind `if`, and the demands behind `then`, read and listed.
@@ -335,36 +204,31 @@ pub fn read_if(
     at: usize,
     keys: &[u64],
     making: Making,
-    ranges: &mut [i64],
-    primitives: &mut [i64],
+    equations: &mut Equations,
     firsts: &mut [i64],
     seconds: &mut [i64],
-) -> Ruled
-    ensures { Rules (λ k. then_of k (all_f k 20 (tokens_from line.now at))) keys.now (length (tokens_from line.now at)) (listing_of (record { making = making; count = 0; equals = 0 }) ranges.old primitives.old firsts.old seconds.old) result ranges.new primitives.new firsts.new seconds.new }
+) -> Option<Tally>
+    ensures { Rules (λ k. then_of k (all_f k 20 (tokens_from line.now at))) keys.now (length (tokens_from line.now at)) (listing_of (record { making = making; count = 0; equals = 0 }) equations.old.ranges equations.old.primitives firsts.old seconds.old) result equations.new.ranges equations.new.primitives firsts.new seconds.new }
 {
     let none = Tally {
         making,
         count: 0,
         equals: 0,
     };
-    let Listed::At {
-        next: i,
-        tally: conditions,
-    } = comparisons(
-        line, at, keys, AND, none, ranges, primitives, firsts, seconds,
-    )
-    else {
-        return Ruled::Unread;
-    };
-    let s = next(line, i);
-    let t = s.token;
-    if kind(t) != THEN {
-        return Ruled::Unread;
+    let conditions = comparisons(line, at, keys, Mark::And, none, equations, firsts, seconds)?;
+    let step = next(line, conditions.next);
+    if step.token != Token::Fixed(Mark::Then) {
+        return None;
     }
-    let Listed::At { next: j, tally } = comparisons(
-        line, s.next, keys, OR, conditions, ranges, primitives, firsts, seconds,
-    ) else {
-        return Ruled::Unread;
-    };
-    ended(line, j, tally)
+    let demands = comparisons(
+        line,
+        step.next,
+        keys,
+        Mark::Or,
+        conditions.tally,
+        equations,
+        firsts,
+        seconds,
+    )?;
+    ended(line, demands)
 }

@@ -1,11 +1,11 @@
 // What a sheet's rules write into lists of fixed size. A number that has no place is not written, and counts stop at a limit.
-ghost use Rattle.std.specs.Prelude.{◌≡◌, List, ℕ, ◌≤◌, ℤ, pos, length, set, get_or};
+ghost use Rattle.std.specs.Prelude.{◌≡◌, ℕ, ◌≤◌, pos, length, set, get_or};
 ghost use Rattle.whole.specs.inner.Held.{Good};
 ghost use Rattle.problem.specs.Problem.{range_at};
 ghost use Rattle.meaning.specs.Plain.{place_of, constant, quantity, sum, difference, product};
 ghost use Rattle.lines.specs.inner.Emission.{bump, small, Keeps, put_range, put_four, put_primitive, put_three, put_literal, emitted_as, Emits, another, operated, joined, squared_of, emit};
 
-use crate::parts::{Emitted, Held, Making};
+use crate::parts::{Emitted, Equations, Held, Making};
 use problem::{Literal, Primitive};
 use whole::Range;
 
@@ -42,10 +42,11 @@ fn store(list: &mut [i64], i: usize, v: i64)
 fn fetch(list: &[i64], i: usize) -> i64
     ensures { result ≡ get_or list.now i (pos 0) }
 {
-    if i < list.len() { list[i] } else { 0 }
+    list.get(i).copied().unwrap_or(0)
 }
 
 // The range of quantity i written.
+#[tactic(auto, unfolding(crate::specs::inner::Emission::put_range))]
 pub fn put_range(list: &mut [i64], i: usize, r: Range)
     ensures { list.new ≡ put_range list.old i r }
 {
@@ -56,6 +57,7 @@ pub fn put_range(list: &mut [i64], i: usize, r: Range)
 }
 
 // The four numbers of primitive i written.
+#[tactic(auto, unfolding(crate::specs::inner::Emission::put_four))]
 fn put_four(list: &mut [i64], i: usize, kind: i64, z: i64, x: i64, y: i64)
     ensures { list.new ≡ put_four list.old i kind z x y }
 {
@@ -79,6 +81,7 @@ fn put_primitive(list: &mut [i64], i: usize, p: Primitive)
 }
 
 // The three numbers of literal i written.
+#[tactic(auto, unfolding(crate::specs::inner::Emission::put_three))]
 fn put_three(list: &mut [i64], i: usize, q: i64, sense: i64, bound: i64)
     ensures { list.new ≡ put_three list.old i q sense bound }
 {
@@ -121,160 +124,128 @@ fn span_of(ranges: &[i64], q: usize) -> Range
     Range { low: 0, high: 0 }
 }
 
-// A helper more, of this range: it is in hand.
-fn helper(s: Range, count: usize, making: Making, ranges: &mut [i64]) -> Emitted
-    ensures { (ps : List ℤ) → Emits (another s ranges.old ps count making) result ranges.new ps }
-{
-    let span = keep(s);
-    let wide = making.wide || problem::bad_range(s.low, s.high);
-    put_range(ranges, making.used, span);
-    Emitted {
-        held: Held {
-            place: making.used,
-            span,
-        },
-        making: Making {
-            used: one_more(making.used),
-            count,
-            unknown: making.unknown,
-            wide,
-        },
-    }
-}
-
-// A helper with its primitive.
-fn operated(
-    s: Range,
-    p: Primitive,
-    making: Making,
-    ranges: &mut [i64],
-    primitives: &mut [i64],
-) -> Emitted
-    ensures { Emits (operated s p ranges.old primitives.old making) result ranges.new primitives.new }
-{
-    put_primitive(primitives, making.count, p);
-    helper(s, one_more(making.count), making, ranges)
-}
-
-// A number makes a helper with a one-value range.
-pub fn constant(n: u64, making: Making, ranges: &mut [i64]) -> Emitted
-    requires { n ≤ 1_000_000_000_000 }
-    ensures { (d : ℕ) (ps : List ℤ) → Emits (emit d (constant n) ranges.old ps making) result ranges.new ps }
-{
-    let z = n as i64;
-    helper(Range { low: z, high: z }, making.count, making, ranges)
-}
-
 // How many names were declared before this one; as many as there are where it is not there.
 pub fn place_of(keys: &[u64], name: u64) -> usize
     ensures { result ≡ place_of keys.now name }
 {
-    let mut i = 0;
-    while i < keys.len() {
-        if keys[i] == name {
-            return i;
+    keys.iter()
+        .position(|&key| key == name)
+        .unwrap_or(keys.len())
+}
+
+impl Equations {
+    // A helper more, of this range: it is in hand.
+    fn helper(&mut self, s: Range, count: usize, making: Making) -> Emitted
+        ensures { Emits (another s self.old.ranges self.old.primitives count making) result self.new.ranges self.new.primitives }
+    {
+        let span = keep(s);
+        let wide = making.wide || problem::bad_range(s.low, s.high);
+        put_range(&mut self.ranges, making.used, span);
+        Emitted {
+            held: Held {
+                place: making.used,
+                span,
+            },
+            making: Making {
+                used: one_more(making.used),
+                count,
+                wide,
+                ..making
+            },
         }
-        i += 1;
     }
-    i
-}
 
-// A name makes no helper: its own quantity is in hand.
-pub fn named(name: u64, keys: &[u64], making: Making, ranges: &[i64]) -> Emitted
-    ensures { (ps : List ℤ) → Emits (emit (length keys.now) (quantity (place_of keys.now name)) ranges.now ps making) result ranges.now ps }
-{
-    let q = place_of(keys, name);
-    let unknown = making.unknown || keys.len() <= q;
-    Emitted {
-        held: Held {
-            place: q,
-            span: span_of(ranges, q),
-        },
-        making: Making {
-            used: making.used,
-            count: making.count,
-            unknown,
-            wide: making.wide,
-        },
+    // A helper with its primitive.
+    fn operated(&mut self, s: Range, p: Primitive, making: Making) -> Emitted
+        ensures { Emits (operated s p self.old.ranges self.old.primitives making) result self.new.ranges self.new.primitives }
+    {
+        put_primitive(&mut self.primitives, making.count, p);
+        self.helper(s, one_more(making.count), making)
     }
-}
 
-// The sum of what is in hand and what was made after it.
-pub fn sum(a: Held, e: Emitted, ranges: &mut [i64], primitives: &mut [i64]) -> Emitted
-    requires fact_1 { Good a.span }
-    requires fact_2 { Good e.held.span }
-    ensures { Emits (joined sum a (emitted_as e ranges.old primitives.old)) result ranges.new primitives.new }
-{
-    let b = e.held;
-    let making = e.making;
-    let p = Primitive::Sum {
-        z: making.used,
-        x: a.place,
-        y: b.place,
-    };
-    operated(
-        whole::span::sum(a.span, b.span),
-        p,
-        making,
-        ranges,
-        primitives,
-    )
-}
+    // A number makes a helper with a one-value range.
+    pub(crate) fn constant(&mut self, n: u64, making: Making) -> Emitted
+        requires { n ≤ 1_000_000_000_000 }
+        ensures { (d : ℕ) → Emits (emit d (constant n) self.old.ranges self.old.primitives making) result self.new.ranges self.new.primitives }
+    {
+        let z = n as i64;
+        self.helper(Range { low: z, high: z }, making.count, making)
+    }
 
-// The difference d of a and b is the primitive a = d + b.
-pub fn difference(a: Held, e: Emitted, ranges: &mut [i64], primitives: &mut [i64]) -> Emitted
-    requires fact_1 { Good a.span }
-    requires fact_2 { Good e.held.span }
-    ensures { Emits (joined difference a (emitted_as e ranges.old primitives.old)) result ranges.new primitives.new }
-{
-    let b = e.held;
-    let making = e.making;
-    let p = Primitive::Sum {
-        z: a.place,
-        x: making.used,
-        y: b.place,
-    };
-    operated(
-        whole::span::difference(a.span, b.span),
-        p,
-        making,
-        ranges,
-        primitives,
-    )
-}
+    // A name makes no helper: its own quantity is in hand.
+    pub(crate) fn named(&self, name: u64, keys: &[u64], making: Making) -> Emitted
+        ensures { Emits (emit (length keys.now) (quantity (place_of keys.now name)) self.now.ranges self.now.primitives making) result self.now.ranges self.now.primitives }
+    {
+        let q = place_of(keys, name);
+        let unknown = making.unknown || keys.len() <= q;
+        Emitted {
+            held: Held {
+                place: q,
+                span: span_of(&self.ranges, q),
+            },
+            making: Making { unknown, ..making },
+        }
+    }
 
-// The product of what is in hand and what was made after it.
-pub fn product(a: Held, e: Emitted, ranges: &mut [i64], primitives: &mut [i64]) -> Emitted
-    requires fact_1 { Good a.span }
-    requires fact_2 { Good e.held.span }
-    ensures { Emits (joined product a (emitted_as e ranges.old primitives.old)) result ranges.new primitives.new }
-{
-    let b = e.held;
-    let making = e.making;
-    let p = Primitive::Product {
-        z: making.used,
-        x: a.place,
-        y: b.place,
-    };
-    operated(
-        whole::span::product(a.span, b.span),
-        p,
-        making,
-        ranges,
-        primitives,
-    )
-}
+    // The sum of what is in hand and what was made after it.
+    pub(crate) fn sum(&mut self, a: Held, e: Emitted) -> Emitted
+        requires fact_1 { Good a.span }
+        requires fact_2 { Good e.held.span }
+        ensures { Emits (joined sum a (emitted_as e self.old.ranges self.old.primitives)) result self.new.ranges self.new.primitives }
+    {
+        let b = e.held;
+        let making = e.making;
+        let p = Primitive::Sum {
+            z: making.used,
+            x: a.place,
+            y: b.place,
+        };
+        self.operated(whole::span::sum(a.span, b.span), p, making)
+    }
 
-// The square of what is in hand.
-pub fn squared(e: Emitted, ranges: &mut [i64], primitives: &mut [i64]) -> Emitted
-    requires { Good e.held.span }
-    ensures { Emits (squared_of (emitted_as e ranges.old primitives.old)) result ranges.new primitives.new }
-{
-    let a = e.held;
-    let making = e.making;
-    let p = Primitive::Square {
-        z: making.used,
-        x: a.place,
-    };
-    operated(whole::span::square(a.span), p, making, ranges, primitives)
+    // The difference d of a and b is the primitive a = d + b.
+    pub(crate) fn difference(&mut self, a: Held, e: Emitted) -> Emitted
+        requires fact_1 { Good a.span }
+        requires fact_2 { Good e.held.span }
+        ensures { Emits (joined difference a (emitted_as e self.old.ranges self.old.primitives)) result self.new.ranges self.new.primitives }
+    {
+        let b = e.held;
+        let making = e.making;
+        let p = Primitive::Sum {
+            z: a.place,
+            x: making.used,
+            y: b.place,
+        };
+        self.operated(whole::span::difference(a.span, b.span), p, making)
+    }
+
+    // The product of what is in hand and what was made after it.
+    pub(crate) fn product(&mut self, a: Held, e: Emitted) -> Emitted
+        requires fact_1 { Good a.span }
+        requires fact_2 { Good e.held.span }
+        ensures { Emits (joined product a (emitted_as e self.old.ranges self.old.primitives)) result self.new.ranges self.new.primitives }
+    {
+        let b = e.held;
+        let making = e.making;
+        let p = Primitive::Product {
+            z: making.used,
+            x: a.place,
+            y: b.place,
+        };
+        self.operated(whole::span::product(a.span, b.span), p, making)
+    }
+
+    // The square of what is in hand.
+    pub(crate) fn squared(&mut self, e: Emitted) -> Emitted
+        requires { Good e.held.span }
+        ensures { Emits (squared_of (emitted_as e self.old.ranges self.old.primitives)) result self.new.ranges self.new.primitives }
+    {
+        let a = e.held;
+        let making = e.making;
+        let p = Primitive::Square {
+            z: making.used,
+            x: a.place,
+        };
+        self.operated(whole::span::square(a.span), p, making)
+    }
 }

@@ -10,10 +10,9 @@ use Rattle.whole.specs.Ranges.{Point, In}
 use Rattle.problem.specs.Problem.{Problem, quantities, Inside, Holds, Satisfies}
 use Rattle.problem.specs.Order.{Alike, Before}
 use Rattle.sheet.specs.Lines.{lines_of}
-use Rattle.sheet.specs.Tokens.{tokens_of}
+use Rattle.sheet.specs.Tokens.{Value, tokens_of}
 use Rattle.sheet.specs.Grammar.{Line, spell_line}
 use Rattle.sheet.specs.Meaning.{Assignment, Obeys}
-use Rattle.sheet.specs.declared.Value.{Value}
 use Rattle.meaning.specs.Plain.{place_of}
 use Rattle.meaning.specs.Lists.{range_list}
 use Rattle.meaning.specs.Draft.{Draft, blank, quantities_in, after, draft_of, declared_in, problem_in}

@@ -1,4 +1,5 @@
 -- A line that is read has none of the faults, a text that is read none of the grounds: each test is looked at in turn, and every one that is met refuses.
+use Rattle.std.specs.Prelude.{Some, None}
 use mathlib.Core.Path.{◌≡◌, refl, ap, subst, ◌∙◌}
 use mathlib.Core.Bool.{Bool, true, false, cond}
 use mathlib.Core.List.{List}
@@ -9,12 +10,10 @@ use lib.Dec.{eqb}
 use lib.ListN.{length}
 use borrow.Author.Tests.{ltb-false, eqb-false}
 use Rattle.sheet.specs.Lines.{lines_of, line_of}
-use Rattle.sheet.specs.Tokens.{tokens_of}
+use Rattle.sheet.specs.Tokens.{Value, tokens_of}
 use Rattle.sheet.specs.Depth.{too_deep}
 use Rattle.sheet.specs.Grammar.{Line}
 use Rattle.sheet.specs.Reading.{read_line}
-use Rattle.sheet.specs.declared.Value.{Value}
-use Rattle.sheet.specs.declared.Value.TheVariants.{Is, Not}
 use Rattle.meaning.specs.Plain.{asks_of}
 use Rattle.meaning.specs.Translation.{equalities}
 use Rattle.meaning.specs.Draft.{Draft, blank, quantities_in, after}
@@ -77,7 +76,7 @@ above (suc n) h = omega arith
 -- a text that is read: its first line is a version's, the others are read by that version, and a quantity is declared
 pub record TextRead (t : List ℕ) (s : Draft) : Type 0 where
   pub version : ℕ
-  pub first : first_line (line_of t 1) ≡ Is version
+  pub first : first_line (line_of t 1) ≡ Some version
   pub lines : read_lines (top_of version) 2 blank (behind_first (lines_of t)) ≡ read s
   pub some : 0 < length s.names
 
@@ -91,19 +90,19 @@ text_read t s e = good (bad_text t) e
         let i : s' ≡ s = cc in
         (i, subst (λ (u : Draft). 0 < length u.names) i (above (length s'.names) (eqb-false (length s'.names) 0 f)))
 
-    lines : (v : ℕ) (o : Outcome) → first_line (line_of t 1) ≡ Is v → read_lines (top_of v) 2 blank (behind_first (lines_of t)) ≡ o → some_declared o ≡ read s → TextRead t s
+    lines : (v : ℕ) (o : Outcome) → first_line (line_of t 1) ≡ Some v → read_lines (top_of v) 2 blank (behind_first (lines_of t)) ≡ o → some_declared o ≡ read s → TextRead t s
     lines v (refused g k) i f h = absurd (let z : ◌≡◌ {A = ℕ} 0 1 = cc in omega arith)
     lines v (read s') i f h =
         let d = declared s' (eqb (length s'.names) 0) refl h in
         record { version = v; first = i; lines = f ∙ ap read d.0; some = d.1 }
 
-    known : (v : ℕ) (b : Bool) → first_line (line_of t 1) ≡ Is v → cond b (refused refusal.Version 1) (some_declared (read_lines (top_of v) 2 blank (behind_first (lines_of t)))) ≡ read s → TextRead t s
+    known : (v : ℕ) (b : Bool) → first_line (line_of t 1) ≡ Some v → cond b (refused refusal.Version 1) (some_declared (read_lines (top_of v) 2 blank (behind_first (lines_of t)))) ≡ read s → TextRead t s
     known v true i h = absurd (let z : ◌≡◌ {A = ℕ} 0 1 = cc in omega arith)
     known v false i h = lines v (read_lines (top_of v) 2 blank (behind_first (lines_of t))) i refl h
 
     versioned : (v : Value) → first_line (line_of t 1) ≡ v → by_version v t ≡ read s → TextRead t s
-    versioned (Is v) i h = known v (other_version v) i h
-    versioned Not i h = absurd (let z : ◌≡◌ {A = ℕ} 0 1 = cc in omega arith)
+    versioned (Some v) i h = known v (other_version v) i h
+    versioned None i h = absurd (let z : ◌≡◌ {A = ℕ} 0 1 = cc in omega arith)
 
     good : (b : Bool) → cond b (refused refusal.Text 0) (by_version (first_line (line_of t 1)) t) ≡ read s → TextRead t s
     good true h = absurd (let z : ◌≡◌ {A = ℕ} 0 1 = cc in omega arith)

@@ -15,7 +15,7 @@ use Rattle.problem.specs.Problem.{low_at, high_at, range_at, Inside}
 use Rattle.problem.specs.Lists.{problem_of}
 use Rattle.problem.specs.Grounds.{judge_of}
 use Rattle.problem.specs.Leading.{bad_leading}
-use Rattle.problem.specs.declared.Judged.TheVariants.{Sound}
+use Rattle.std.specs.Prelude.{Ok}
 use Rattle.meaning.specs.Lists.{range_list, primitive_list, length_list, literal_list, literals_in}
 use Rattle.meaning.specs.Plain.{place_of}
 use Rattle.meaning.specs.Draft.{Draft, quantities_in, problem_in}
@@ -108,7 +108,7 @@ room t s e =
     }
 
 -- none of the solver's grounds 1 to 5
-pub accepted_sound : (t : List ℕ) (s : Draft) → outcome_of t ≡ read s → judge_of (range_list (s.declared ++ s.made.ranges)) (primitive_list s.made.primitives) (length_list s.made.clauses) (literal_list (literals_in s.made.clauses)) ≡ Sound
+pub accepted_sound : (t : List ℕ) (s : Draft) → outcome_of t ≡ read s → judge_of (range_list (s.declared ++ s.made.ranges)) (primitive_list s.made.primitives) (length_list s.made.clauses) (literal_list (literals_in s.made.clauses)) ≡ Ok tt
 accepted_sound t s e =
     let f = fits t s e in
     let n = length-append s.declared s.made.ranges in

@@ -1,4 +1,5 @@
 -- A name's number has its letters back: dividing takes off the one that was put on last, and no letter is 0; and a token is a name only if its piece is letters.
+use Rattle.std.specs.Prelude.{Some, None}
 use mathlib.Core.Path.{◌≡◌, refl, sym, ap, subst, ◌∙◌}
 use mathlib.Core.Bool.{Bool, true, false, cond, ◌&&◌}
 use mathlib.Core.List.{List, [], ◌∷◌, ◌++◌, append_assoc, append-nil}
@@ -7,10 +8,8 @@ use native.Mathlib.Omega.{arith}
 use lib.Dec.{leb, ltb}
 use lib.ListN.{length, replicate}
 use borrow.Author.Tests.{leb-true, ltb-true, ne_eqb}
-use Rattle.sheet.specs.Tokens.{digit_first, number_of, as_number, as_negative, key_of, all_lower, mark_of, or_else, as_name, word_of, minus_first, behind, token_of}
+use Rattle.sheet.specs.Tokens.{Value, digit_first, number_of, as_number, as_negative, key_of, all_lower, mark_of, or_else, as_name, word_of, minus_first, behind, token_of}
 use Rattle.sheet.specs.declared.Mark.{Mark}
-use Rattle.sheet.specs.declared.Value.{Value}
-use Rattle.sheet.specs.declared.Value.TheVariants.{Is, Not}
 use Rattle.sheet.specs.declared.Token.{Token}
 use Rattle.sheet.specs.declared.Token.TheVariants.{Number, Negative, Name, Fixed, Bad}
 use Rattle.meaning.specs.Lists.{letters_of, padded}
@@ -87,13 +86,13 @@ module _ (w : List ℕ) where
   marks_spelt k = search (or_mark, bad_spelt) depth 20
 
   number_spelt : (v : Value) → Spelt w (as_number v)
-  number_spelt (Is v) = tt
-  number_spelt Not = tt
+  number_spelt (Some v) = tt
+  number_spelt None = tt
 
   negative_spelt : (v : Value) → Spelt w (as_negative v)
-  negative_spelt (Is zero) = tt
-  negative_spelt (Is (suc v)) = tt
-  negative_spelt Not = tt
+  negative_spelt (Some zero) = tt
+  negative_spelt (Some (suc v)) = tt
+  negative_spelt None = tt
 
   word_spelt : Spelt w (word_of w)
   word_spelt = few (leb (length w) 8) refl

@@ -1,4 +1,5 @@
 -- The numbers of a range line are within plus or minus M: every number that is a token went through the test of its value.
+use Rattle.std.specs.Prelude.{Some, None}
 use mathlib.Core.Path.{◌≡◌, refl, subst}
 use mathlib.Core.List.{List, [], ◌∷◌, map}
 use mathlib.Core.Bool.{Bool, true, false, cond, ◌&&◌}
@@ -10,18 +11,16 @@ use borrow.Author.Tests.{leb-true}
 use Rattle.whole.specs.Lists.{AllOf}
 use Rattle.whole.specs.Numbers.{Near}
 use Rattle.whole.proofs.Kit.{ints}
-use Rattle.sheet.specs.Tokens.{pieces_of, is_digit, unit_of, limited, suffix_of, digits_of, digit_first, number_of, as_number, as_negative, key_of, all_lower, mark_of, or_else, as_name, word_of, minus_first, behind, token_of, tokens_of}
+use Rattle.sheet.specs.Tokens.{Value, pieces_of, is_digit, unit_of, limited, suffix_of, digits_of, digit_first, number_of, as_number, as_negative, key_of, all_lower, mark_of, or_else, as_name, word_of, minus_first, behind, token_of, tokens_of}
 use Rattle.sheet.specs.Grammar.{signed, ranged, spell_line}
 use Rattle.sheet.specs.declared.Mark.{Mark}
-use Rattle.sheet.specs.declared.Value.{Value}
-use Rattle.sheet.specs.declared.Value.TheVariants.{Is, Not}
 use Rattle.sheet.specs.declared.Token.{Token}
 use Rattle.sheet.specs.declared.Token.TheVariants.{Number, Negative, Name, Fixed, Bad}
 
 -- ---- values
 abbrev Within : Value → Type 0
-Within (Is v) = v ≤ 1_000_000_000_000
-Within Not = Unit {0}
+Within (Some v) = v ≤ 1_000_000_000_000
+Within None = Unit {0}
 
 either_within : (b : Bool) (u v : Value) → Within u → Within v → Within (cond b u v)
 either_within true u v h k = h
@@ -30,13 +29,13 @@ either_within false u v h k = k
 limited_within : (v : ℕ) → Within (limited v)
 limited_within v = go (leb v 1_000_000_000_000) refl
   where
-    go : (b : Bool) → leb v 1_000_000_000_000 ≡ b → Within (cond b (Is v) Not)
+    go : (b : Bool) → leb v 1_000_000_000_000 ≡ b → Within (cond b (Some v) None)
     go true e = leb-true v 1_000_000_000_000 e
     go false e = tt
 
 suffix_within : (v b : ℕ) (bs : List ℕ) → Within (suffix_of v b bs)
 unfolding suffix_of
-suffix_within v b [] = either_within (eqb (unit_of b) 0) Not (limited (v * unit_of b)) tt (limited_within (v * unit_of b))
+suffix_within v b [] = either_within (eqb (unit_of b) 0) None (limited (v * unit_of b)) tt (limited_within (v * unit_of b))
 suffix_within v b (x ∷ xs) = tt
 
 digits_within : (v : ℕ) (bs : List ℕ) → Within (digits_of v bs)
@@ -47,7 +46,7 @@ digits_within v (b ∷ bs) = either_within (is_digit b) _ _ (digits_within (v * 
 number_within : (w : List ℕ) → Within (number_of w)
 unfolding number_of
 number_within [] = tt
-number_within (b ∷ bs) = either_within (is_digit b) _ Not (either_within (eqb b 48 && digit_first bs) Not _ tt (digits_within (b - 48) bs)) tt
+number_within (b ∷ bs) = either_within (is_digit b) _ None (either_within (eqb b 48 && digit_first bs) None _ tt (digits_within (b - 48) bs)) tt
 
 -- ---- tokens
 abbrev pub Limited : Token → Type 0
@@ -79,13 +78,13 @@ unfolding mark_of
 marks_limited k = search (or_mark, bad_limited) depth 20
 
 number_limited : (v : Value) → Within v → Limited (as_number v)
-number_limited (Is v) h = h
-number_limited Not h = tt
+number_limited (Some v) h = h
+number_limited None h = tt
 
 negative_limited : (v : Value) → Within v → Limited (as_negative v)
-negative_limited (Is zero) h = tt
-negative_limited (Is (suc v)) h = h
-negative_limited Not h = tt
+negative_limited (Some zero) h = tt
+negative_limited (Some (suc v)) h = h
+negative_limited None h = tt
 
 word_limited : (w : List ℕ) → Limited (word_of w)
 word_limited w =

@@ -23,7 +23,7 @@ use Rattle.problem.specs.declared.Primitive.{Primitive}
 use Rattle.problem.specs.declared.Primitive.TheVariants.{Sum, Product, Square}
 use Rattle.problem.specs.declared.Literal.{Literal}
 use Rattle.problem.specs.declared.Literal.TheVariants.{AtMost, AtLeast}
-use Rattle.problem.specs.declared.Judged.TheVariants.{Sound}
+use Rattle.std.specs.Prelude.{Ok}
 use Rattle.meaning.specs.Lists.{range_list, primitive_list, length_list, literal_list, literals_in}
 use Rattle.meaning.proofs.Elements.{Each, each_at}
 use Rattle.meaning.proofs.Tests.{both_off}
@@ -150,7 +150,7 @@ pub record Sane (rs : List Range) (ps : List Primitive) (cs : List (List Literal
   pub known : AllOf (Known (length rs)) ps
   pub good : AllOf (Good (length rs)) (literals_in cs)
 
-pub sound : (rs : List Range) (ps : List Primitive) (cs : List (List Literal)) → Sane rs ps cs → judge_of (range_list rs) (primitive_list ps) (length_list cs) (literal_list (literals_in cs)) ≡ Sound
+pub sound : (rs : List Range) (ps : List Primitive) (cs : List (List Literal)) → Sane rs ps cs → judge_of (range_list rs) (primitive_list ps) (length_list cs) (literal_list (literals_in cs)) ≡ Ok tt
 unfolding judge_of
 sound rs ps cs h =
     rw (

@@ -1,4 +1,5 @@
 -- A text is refused exactly on document 01's ground, at its line: the lines before it have no fault, and it is the first that has one.
+use Rattle.std.specs.Prelude.{Some, None}
 use mathlib.Core.Path.{◌≡◌, refl, sym, ap, subst, ◌∙◌}
 use mathlib.Core.Bool.{Bool, true, false, cond}
 use mathlib.Core.List.{List, [], ◌∷◌, ◌++◌}
@@ -10,8 +11,7 @@ use lib.ListN.{length}
 use Rattle.problem.specs.Grounds.{FirstMet}
 use Rattle.sheet.specs.Lines.{lines_of, line_of}
 use Rattle.sheet.specs.Grammar.{Line}
-use Rattle.sheet.specs.declared.Value.{Value}
-use Rattle.sheet.specs.declared.Value.TheVariants.{Is, Not}
+use Rattle.sheet.specs.Tokens.{Value}
 use Rattle.meaning.specs.Draft.{Draft, blank, after, after_all, draft_of}
 use Rattle.meaning.specs.Grounds.{bad_text, first_line, other_version, top_of, Outcome, refused, read, one_line, read_lines, some_declared, behind_first, by_version, outcome_of, refusal_number}
 use Rattle.meaning.specs.Refused.{LineGround, FaultFree, FirstFault, RefusedAt, text, first, version, at_line, undeclared}
@@ -97,7 +97,7 @@ module _ (t : List ℕ) where
       let n : j ≡ i = cc in
       subst (λ (x : Refusal). RefusedAt t (refusal_number x) i) q (subst (RefusedAt t (refusal_number g)) n r)
 
-  module _ (b : bad_text t ≡ false) (v : ℕ) (is : first_line (line_of t 1) ≡ Is v) (known : other_version v ≡ false) where
+  module _ (b : bad_text t ≡ false) (v : ℕ) (is : first_line (line_of t 1) ≡ Some v) (known : other_version v ≡ false) where
     by_lines : (o : Outcome) → LinesAre (top_of v) 2 blank (behind_first (lines_of t)) o → Refuses (some_declared o)
     by_lines o (faulty g j r) =
         told g j
@@ -112,8 +112,8 @@ module _ (t : List ℕ) where
         by false z = λ g j e. absurd (let y : ◌≡◌ {A = ℕ} 0 1 = cc in omega arith)
 
   by_version_lem : bad_text t ≡ false → (w : Value) → first_line (line_of t 1) ≡ w → Refuses (by_version w t)
-  by_version_lem b Not v = told FirstLine 1 (first b v)
-  by_version_lem b (Is k) v = by (other_version k) refl
+  by_version_lem b None v = told FirstLine 1 (first b v)
+  by_version_lem b (Some k) v = by (other_version k) refl
     where
       by : (x : Bool) → other_version k ≡ x → Refuses (cond x (refused Version 1) (some_declared (read_lines (top_of k) 2 blank (behind_first (lines_of t)))))
       by true z = told Version 1 (version b v z)

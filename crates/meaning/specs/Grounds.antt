@@ -1,17 +1,15 @@
 -- Grounds 19 to 30, in document 01's order, each as its own definition; the first line with a fault decides, the lowest number within it.
-use Rattle.std.specs.Prelude.{Bool, true, false, not, cond, ◌||◌, ◌&&◌, List, [], ◌∷◌, ℕ, suc, ◌+◌, ◌-◌, ◌*◌, eqb, leb, ltb, ℤ, length, get_or}
+use Rattle.std.specs.Prelude.{Bool, true, false, not, cond, ◌||◌, ◌&&◌, List, [], ◌∷◌, ℕ, suc, ◌+◌, ◌-◌, ◌*◌, eqb, leb, ltb, ℤ, length, get_or, Some, None}
 use Rattle.std.proofs.Math.Option.{Option, none, some}
 use Rattle.std.specs.Int.Signed.{lt_z}
 use Rattle.whole.specs.declared.Range.{Range}
 use Rattle.problem.specs.Grounds.{beyond}
 use Rattle.sheet.specs.Lines.{lines_of, line_of}
 use Rattle.sheet.specs.Text.{word}
-use Rattle.sheet.specs.Tokens.{is_digit, digit_first, tokens_of}
+use Rattle.sheet.specs.Tokens.{Value, is_digit, digit_first, tokens_of}
 use Rattle.sheet.specs.Depth.{too_deep}
 use Rattle.sheet.specs.Grammar.{Comparison, Line, ranged, default, must, when}
 use Rattle.sheet.specs.Reading.{read_line}
-use Rattle.sheet.specs.declared.Value.{Value}
-use Rattle.sheet.specs.declared.Value.TheVariants.{Is, Not}
 use Rattle.meaning.specs.Plain.{is_in, named_e, asks_of}
 use Rattle.meaning.specs.Translation.{gaps, equalities}
 use Rattle.meaning.specs.Draft.{Draft, blank, quantities_in, after}
@@ -37,21 +35,21 @@ bad_text t = eqb (length t) 0 || (ltb 4096 (length t) || (any_bad_byte t || not 
 
 -- the value of digits alone, going on from the value of those before; at most 65,535
 unfoldable pub version_from : ℕ → List ℕ → Value
-version_from v [] = cond (leb v 65_535) (Is v) Not
-version_from v (b ∷ bs) = cond (is_digit b) (version_from (v * 10 + (b - word "0")) bs) Not
+version_from v [] = cond (leb v 65_535) (Some v) None
+version_from v (b ∷ bs) = cond (is_digit b) (version_from (v * 10 + (b - word "0")) bs) None
 
 -- a version of 0 to 65,535 without leading zeros
 unfoldable pub version_of : List ℕ → Value
-version_of [] = Not
-version_of (b ∷ bs) = cond (is_digit b && not (eqb b (word "0") && digit_first bs)) (version_from (b - word "0") bs) Not
+version_of [] = None
+version_of (b ∷ bs) = cond (is_digit b && not (eqb b (word "0") && digit_first bs)) (version_from (b - word "0") bs) None
 
 -- 21: line 1 is the mark `RUL`, a space, and a version
 unfoldable pub first_line : List ℕ → Value
-first_line [] = Not
-first_line (r ∷ []) = Not
-first_line (r ∷ (u ∷ [])) = Not
-first_line (r ∷ (u ∷ (l ∷ []))) = Not
-first_line (r ∷ (u ∷ (l ∷ (s ∷ ds)))) = cond (eqb r (word "R") && (eqb u (word "U") && (eqb l (word "L") && eqb s (word " ")))) (version_of ds) Not
+first_line [] = None
+first_line (r ∷ []) = None
+first_line (r ∷ (u ∷ [])) = None
+first_line (r ∷ (u ∷ (l ∷ []))) = None
+first_line (r ∷ (u ∷ (l ∷ (s ∷ ds)))) = cond (eqb r (word "R") && (eqb u (word "U") && (eqb l (word "L") && eqb s (word " ")))) (version_of ds) None
 
 -- 22: a version other than 1 or 2
 abbrev pub other_version : ℕ → Bool
@@ -63,8 +61,8 @@ top_of v = cond (eqb v 1) 1_000_000 200_000
 
 -- the version that line 1 gives; 0 where it is malformed
 abbrev pub version_in : Value → ℕ
-version_in Not = 0
-version_in (Is v) = v
+version_in None = 0
+version_in (Some v) = v
 
 -- the top of the default range in a text
 abbrev pub top_in : List ℕ → ℕ
@@ -157,8 +155,8 @@ behind_first (l ∷ ls) = ls
 
 -- by what line 1 is: 21, 22, or the lines behind it decide
 abbrev pub by_version : Value → List ℕ → Outcome
-by_version Not t = refused refusal.FirstLine 1
-by_version (Is v) t =
+by_version None t = refused refusal.FirstLine 1
+by_version (Some v) t =
     cond (other_version v) (refused refusal.Version 1) (some_declared (read_lines (top_of v) 2 blank (behind_first (lines_of t))))
 
 -- the whole text

@@ -1,5 +1,5 @@
 -- What is promised of a translation, one statement each; the theorems stand in proofs/Promises.antt.
-use Rattle.std.specs.Prelude.{◌≡◌, false, List, ◌++◌, ℕ, ◌-◌, pos, length, replicate}
+use Rattle.std.specs.Prelude.{◌≡◌, false, List, ◌++◌, ℕ, ◌-◌, pos, length, replicate, Ok}
 use Rattle.whole.specs.Lists.{AllOf}
 use Rattle.whole.specs.Ranges.{Point}
 use Rattle.problem.specs.Problem.{Inside, Holds}
@@ -7,7 +7,6 @@ use Rattle.problem.specs.Order.{Alike}
 use Rattle.problem.specs.Lists.{problem_of}
 use Rattle.problem.specs.Grounds.{judge_of}
 use Rattle.problem.specs.Leading.{bad_leading}
-use Rattle.problem.specs.declared.Judged.TheVariants.{Sound}
 use Rattle.sheet.specs.Text.{word}
 use Rattle.sheet.specs.Tokens.{token_of}
 use Rattle.sheet.specs.Grammar.{Line}
@@ -50,7 +49,7 @@ abbrev pub AcceptedSound : Type 0
 AcceptedSound =
     (t : List ℕ) (s : Draft) → outcome_of t ≡ read s
     → judge_of (range_list (s.declared ++ s.made.ranges)) (primitive_list s.made.primitives)
-    (length_list s.made.clauses) (literal_list (literals_in s.made.clauses)) ≡ Sound
+    (length_list s.made.clauses) (literal_list (literals_in s.made.clauses)) ≡ Ok tt
 
 -- nor by 8, its declared quantities being the leading ones
 abbrev pub AcceptedLeads : Type 0

@@ -1,11 +1,10 @@
 -- On which ground a text is refused, and at which line: document 01's table of a sheet's refusals, said of lines and of the trees they spell.
-use Rattle.std.specs.Prelude.{◌≡◌, true, false, List, [], ◌∷◌, ◌++◌, ℕ, ◌+◌, length}
+use Rattle.std.specs.Prelude.{◌≡◌, true, false, List, [], ◌∷◌, ◌++◌, ℕ, ◌+◌, length, Some, None}
 use Rattle.problem.specs.Grounds.{FirstMet}
 use Rattle.sheet.specs.Lines.{lines_of, line_of}
 use Rattle.sheet.specs.Tokens.{tokens_of}
 use Rattle.sheet.specs.Depth.{too_deep}
 use Rattle.sheet.specs.Grammar.{Line, spell_line}
-use Rattle.sheet.specs.declared.Value.TheVariants.{Is, Not}
 use Rattle.meaning.specs.Draft.{Draft, blank, after, draft_of, declared_in}
 use Rattle.meaning.specs.Grounds.{bad_text, first_line, other_version, top_of, behind_first}
 use Rattle.meaning.specs.Grounds.{late_range, bad_names, bad_order, many_demands, helper_beyond, many_quantities}
@@ -53,14 +52,14 @@ pub data RefusedAt (t : List ℕ) : ℕ → ℕ → Type 0 where
   -- empty, over 4,096 bytes, a byte other than LF and 32 to 126, or no LF at the end
   text : bad_text t ≡ true → RefusedAt t 20 0
   -- line 1 malformed
-  first : bad_text t ≡ false → first_line (line_of t 1) ≡ Not → RefusedAt t 21 1
+  first : bad_text t ≡ false → first_line (line_of t 1) ≡ None → RefusedAt t 21 1
   -- a version other than 1 or 2
-  version : {v : ℕ} → bad_text t ≡ false → first_line (line_of t 1) ≡ Is v → other_version v ≡ true → RefusedAt t 22 1
+  version : {v : ℕ} → bad_text t ≡ false → first_line (line_of t 1) ≡ Some v → other_version v ≡ true → RefusedAt t 22 1
   -- after 22, the first line with a fault decides
   at_line :
-      {v g j : ℕ} → bad_text t ≡ false → first_line (line_of t 1) ≡ Is v → other_version v ≡ false
+      {v g j : ℕ} → bad_text t ≡ false → first_line (line_of t 1) ≡ Some v → other_version v ≡ false
       → FirstFault (top_of v) 2 (behind_first (lines_of t)) g j → RefusedAt t g j
   -- no quantity declared, only where no line has a fault
   undeclared :
-      {v : ℕ} (trees : List Line) → bad_text t ≡ false → first_line (line_of t 1) ≡ Is v → other_version v ≡ false
+      {v : ℕ} (trees : List Line) → bad_text t ≡ false → first_line (line_of t 1) ≡ Some v → other_version v ≡ false
       → FaultFree (top_of v) blank (behind_first (lines_of t)) trees → declared_in trees ≡ [] → RefusedAt t 30 0

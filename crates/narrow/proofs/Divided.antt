@@ -15,7 +15,6 @@ use Rattle.whole.proofs.Division.{floor_under, ceiling_over}
 use Rattle.whole.proofs.Quotients.{floor_from, floor_to, ceiling_from, ceiling_to, floor_mono, ceiling_mono, floor_turned, ceiling_turned}
 use Rattle.whole.proofs.Spans.{ends_is}
 use Rattle.problem.proofs.Tests.{by_bool}
-use Rattle.problem.specs.Problem.{Box, range_at}
 use Rattle.narrow.specs.Cuts.{meet_of, stay, to}
 use Rattle.narrow.specs.Narrowing.{quotient_span, quotient_cut}
 use Rattle.narrow.specs.inner.Product.{Moving}
@@ -118,50 +117,37 @@ yes : true ≡ false → ⊥
 yes e = subst T e tt
 
 -- ---- whether an end of x moves: a product tells, for x is past a quotient exactly where x times the divisor is past what is divided
-module _ (x z y : Range) where
-  pub moves_not : y.low ≤ℤ pos 0 → Moving x z y false
-  moves_not h = record {
-    above = λ e. absurd (no e);
-    moved = λ e. absurd (no e);
-    low = λ e k. absurd (omega ints);
-    high = λ e k. absurd (omega ints);
+module _ (x z y : Range) (oz : z.low ≤ℤ z.high) (gy : Good y) (k : pos 0 <ℤ y.low) where
+  pub moves_low : (l : ℤ) → Least z y l → lt_z (x.low *ℤ l) z.low ≡ true → Moving x z y true
+  moves_low l p e =
+      let d = (least_divides z y gy k l p).above in
+      let i = least_is z y oz gy.ordered k l p in
+      let up : x.low <ℤ (quotient_span z y).low = ⊎_elim (λ m. m) (λ m. let n = ceiling_to x.low l z.low d (omega ints) in absurd (omega ints)) (lt_or_le x.low (quotient_span z y).low) in
+      record { above = λ _. k; moved = λ _. inl up; low = λ f. absurd (yes f); high = λ f. absurd (yes f) }
+
+  pub moves_high : (l g : ℤ) → Least z y l → Greatest z y g → lt_z (x.low *ℤ l) z.low ≡ false → (r : Bool) → r ≡ lt_z z.high (x.high *ℤ g) → Moving x z y r
+  moves_high l g p q e r f = record {
+    above = λ _. k;
+    moved = λ t. inr (⊎_elim (λ m. m) (λ m. let v = j in let u : lt_z z.high (x.high *ℤ g) ≡ true = sym f ∙ t in let n = floor_to x.high g z.high d (omega ints) in absurd (omega ints)) (lt_or_le (quotient_span z y).high x.high));
+    low = λ t _. let v = i in let n = ceiling_from x.low l z.low c (omega ints) in omega ints;
+    high = λ t _. let v = j in let u : lt_z z.high (x.high *ℤ g) ≡ false = sym f ∙ t in let n = floor_from x.high g z.high d (omega ints) in omega ints;
   }
+    where
+      c : pos 0 <ℤ l
+      c = (least_divides z y gy k l p).above
 
-  module _ (oz : z.low ≤ℤ z.high) (gy : Good y) (k : pos 0 <ℤ y.low) where
-    pub moves_low : (l : ℤ) → Least z y l → lt_z (x.low *ℤ l) z.low ≡ true → Moving x z y true
-    moves_low l p e =
-        let d = (least_divides z y gy k l p).above in
-        let i = least_is z y oz gy.ordered k l p in
-        let up : x.low <ℤ (quotient_span z y).low = ⊎_elim (λ m. m) (λ m. let n = ceiling_to x.low l z.low d (omega ints) in absurd (omega ints)) (lt_or_le x.low (quotient_span z y).low) in
-        record { above = λ _. k; moved = λ _. inl up; low = λ f. absurd (yes f); high = λ f. absurd (yes f) }
+      d : pos 0 <ℤ g
+      d = (greatest_divides z y gy k g q).above
 
-    pub moves_high : (l g : ℤ) → Least z y l → Greatest z y g → lt_z (x.low *ℤ l) z.low ≡ false → (r : Bool) → r ≡ lt_z z.high (x.high *ℤ g) → Moving x z y r
-    moves_high l g p q e r f = record {
-      above = λ _. k;
-      moved = λ t. inr (⊎_elim (λ m. m) (λ m. let v = j in let u : lt_z z.high (x.high *ℤ g) ≡ true = sym f ∙ t in let n = floor_to x.high g z.high d (omega ints) in absurd (omega ints)) (lt_or_le (quotient_span z y).high x.high));
-      low = λ t _. let v = i in let n = ceiling_from x.low l z.low c (omega ints) in omega ints;
-      high = λ t _. let v = j in let u : lt_z z.high (x.high *ℤ g) ≡ false = sym f ∙ t in let n = floor_from x.high g z.high d (omega ints) in omega ints;
-    }
-      where
-        c : pos 0 <ℤ l
-        c = (least_divides z y gy k l p).above
+      i : ceil_q z.low l ≡ (quotient_span z y).low
+      i = least_is z y oz gy.ordered k l p
 
-        d : pos 0 <ℤ g
-        d = (greatest_divides z y gy k g q).above
-
-        i : ceil_q z.low l ≡ (quotient_span z y).low
-        i = least_is z y oz gy.ordered k l p
-
-        j : floor_q z.high g ≡ (quotient_span z y).high
-        j = greatest_is z y oz gy.ordered k g q
+      j : floor_q z.high g ≡ (quotient_span z y).high
+      j = greatest_is z y oz gy.ordered k g q
 
 -- of the ranges that were read
 pub moves_read : {x x' z z' y y' : Range} {r : Bool} → x ≡ x' → z ≡ z' → y ≡ y' → Moving x z y r → Moving x' z' y' r
 moves_read {x} {x'} {z} {z'} {y} {y'} {r} ex ez ey m = subst (λ (t : Range). Moving t z' y' r) ex (subst (λ (t : Range). Moving x t y' r) ez (subst (λ (t : Range). Moving x z t r) ey m))
-
--- and as it was tested
-pub moves_tested : (b : Box) (x z y : ℕ) {r t : Bool} → r ≡ t → Moving (range_at b x) (range_at b z) (range_at b y) r → Moving (range_at b x) (range_at b z) (range_at b y) t
-moves_tested b x z y e m = subst (Moving (range_at b x) (range_at b z) (range_at b y)) e m
 
 -- an end that moves, of what x and the quotients have in common
 pub moved_meets : (x s : Range) → (x.low <ℤ s.low) ⊎ (s.high <ℤ x.high) → (x.low <ℤ (meet_of x s).low) ⊎ ((meet_of x s).high <ℤ x.high)
@@ -210,15 +196,6 @@ turned_span z y o h =
 module _ (z y : Range) (gy : Good y) (h : y.high <ℤ pos 0) (l : ℤ) where
   apart_from : {a : ℤ} → pos 0 <ℤ neg_ℤ a → a ≡ pos 0 → ⊥
   apart_from {a} i e = omega (ints, neg_positive a, neg_negative a)
-
-  below_divides : Divisor (neg_ℤ l) → Near l × (l ≡ pos 0 → ⊥)
-  below_divides d = let n = d.near in (omega (ints, neg_positive l, neg_negative l), apart_from d.above)
-
-  pub least_below_divides : Least (turned z) (turned y) (neg_ℤ l) → Near l × (l ≡ pos 0 → ⊥)
-  least_below_divides p = below_divides (least_divides (turned z) (turned y) (turned_good y gy) (turned_above y h) (neg_ℤ l) p)
-
-  pub greatest_below_divides : Greatest (turned z) (turned y) (neg_ℤ l) → Near l × (l ≡ pos 0 → ⊥)
-  greatest_below_divides p = below_divides (greatest_divides (turned z) (turned y) (turned_good y gy) (turned_above y h) (neg_ℤ l) p)
 
   pub least_below : Good z → Least (turned z) (turned y) (neg_ℤ l) → ceil_q z.high l ≡ (quotient_span z y).low
   least_below gz p =

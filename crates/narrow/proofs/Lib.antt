@@ -19,3 +19,4 @@ pub mod Sums
 pub mod SweepLaws
 pub mod Sweeping
 pub mod Trimmed
+pub mod Kept

@@ -2,11 +2,12 @@
 ghost use Rattle.std.specs.Prelude.{[], ◌∷◌, ◌≡◌, ◌/◌, length};
 ghost use Rattle.problem.specs.Lists.{literals_of};
 ghost use Rattle.narrow.specs.Narrowing.{is_false, literal_cut, clause_step};
-ghost use Rattle.narrow.specs.inner.Done.{Has, Fine, Done};
+ghost use Rattle.narrow.specs.inner.Done.{Has, Narrowed};
 ghost use Rattle.narrow.specs.Named.{quantity_of};
 ghost use Rattle.narrow.specs.inner.Clause.{asked_of, Lits};
 
-use crate::Status;
+use crate::Emptied;
+use crate::frame::Frame;
 use problem::Literal;
 use whole::Range;
 
@@ -21,12 +22,11 @@ fn quantity_of(l: Literal) -> usize
 }
 
 // The range that a literal asks of its quantity: from its low end to the bound, or from the bound to its high end.
-fn asked(b: &[i64], l: Literal) -> Range
-    requires fact_1 { Fine b.now }
-    requires fact_2 { Has b.now (quantity_of l) }
-    ensures { result ≡ asked_of b.now l }
+fn asked(frame: &Frame, l: Literal) -> Range
+    requires { Has frame.now.ends.now (quantity_of l) }
+    ensures { result ≡ asked_of frame.now.ends.now l }
 {
-    let own = crate::range_at(b, quantity_of(l));
+    let own = frame.range_at(quantity_of(l));
     let low = own.low;
     let high = own.high;
     match l {
@@ -36,45 +36,39 @@ fn asked(b: &[i64], l: Literal) -> Range
 }
 
 // Whether no value of the range meets the literal.
-fn is_false(b: &[i64], l: Literal) -> bool
-    requires fact_1 { Fine b.now }
-    requires fact_2 { Has b.now (quantity_of l) }
-    ensures { result ≡ is_false b.now l }
+fn is_false(frame: &Frame, l: Literal) -> bool
+    requires { Has frame.now.ends.now (quantity_of l) }
+    ensures { result ≡ is_false frame.now.ends.now l }
 {
-    let s = asked(b, l);
+    let s = asked(frame, l);
     s.high < s.low
 }
 
 // The box is cut by a literal.
-fn cut_literal(b: &mut [i64], l: Literal, prior: Status) -> Status
-    requires fact_1 { Fine b.old }
-    requires fact_2 { Has b.old (quantity_of l) }
-    ensures { Done ((λ c. literal_cut c l) ∷ []) prior b.old result b.new }
+fn cut_literal(frame: &mut Frame, l: Literal, changed: bool) -> Result<bool, Emptied>
+    requires { Has frame.old.ends.now (quantity_of l) }
+    ensures { Narrowed ((λ c. literal_cut c l) ∷ []) changed frame.old.ends result frame.new.ends }
 {
-    let s = asked(b, l);
-    crate::cut(b, quantity_of(l), s, prior)
+    let s = asked(frame, l);
+    frame.cut(quantity_of(l), s, changed)
 }
 
-// All false: empty. Exactly one position not false: cut by it. Otherwise nothing. The one that is not false is at `open`, n as long as there is none.
-pub fn narrow(b: &mut [i64], literals: &[i64], prior: Status) -> Status
-    requires fact_1 { Fine b.old }
-    requires fact_2 { Lits b.old literals.now (length literals.now / 3) }
-    ensures { Done (clause_step (literals_of literals.now) ∷ []) prior b.old result b.new }
+// All false: empty. Exactly one position not false: cut by it. Otherwise nothing. The one that is not false is at `open`.
+pub fn narrow(frame: &mut Frame, literals: &[i64], changed: bool) -> Result<bool, Emptied>
+    requires { Lits frame.old.ends.now literals.now (length literals.now / 3) }
+    ensures { Narrowed (clause_step (literals_of literals.now) ∷ []) changed frame.old.ends result frame.new.ends }
 {
-    let n = literals.len() / 3;
-    let mut open = n;
-    let mut k = 0;
-    while k < n {
-        if !is_false(b, problem::literal_at(literals, k)) {
-            if open < n {
-                return prior;
+    let mut open = None;
+    for k in 0..literals.len() / 3 {
+        if !is_false(frame, problem::literal_at(literals, k)) {
+            if open.is_some() {
+                return Ok(changed);
             }
-            open = k;
+            open = Some(k);
         }
-        k += 1;
     }
-    if open == n {
-        return Status::Empty;
+    match open {
+        None => Err(Emptied),
+        Some(k) => cut_literal(frame, problem::literal_at(literals, k), changed),
     }
-    cut_literal(b, problem::literal_at(literals, open), prior)
 }

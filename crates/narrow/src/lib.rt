@@ -3,20 +3,20 @@
 #![tactic(auto)]
 
 mod clause;
+mod frame;
 mod product;
 mod square;
 mod sum;
 
-ghost use Rattle.std.specs.Prelude.{◌≡◌, [], ◌∷◌, map, ℕ};
+ghost use Rattle.std.specs.Prelude.{false, map};
 ghost use Rattle.problem.specs.Problem.{quantities};
 ghost use Rattle.problem.specs.Lists.{primitives_of, literals_of, clauses_of};
 ghost use Rattle.problem.specs.inner.Placed.{Placed};
-ghost use Rattle.narrow.specs.Cuts.{put_at, to};
 ghost use Rattle.narrow.specs.Narrowing.{primitive_steps, clause_step};
-ghost use Rattle.narrow.specs.Sweep.{all_steps};
-ghost use Rattle.narrow.specs.inner.Done.{Has, Fine, Seen, Replaced, Done, Sweeps, Sited};
+ghost use Rattle.narrow.specs.Sweep.{all_steps, sweep_steps};
+ghost use Rattle.narrow.specs.inner.Done.{Has, Fine, Seen, Done, Narrowed, Sweeps, Sited};
 
-use problem::Primitive;
+use problem::{Primitive, Problem};
 use whole::Range;
 
 // What has become of a box: a range is empty, a range changed, nothing changed.
@@ -26,6 +26,10 @@ pub enum Status {
     Changed,
     Same,
 }
+
+// A range of the box is empty, which ends a sweep at once. What else a function that narrows says is whether a range has changed.
+#[derive(Clone, Copy)]
+pub struct Emptied;
 
 // The range of quantity q.
 pub fn range_at(b: &[i64], q: usize) -> Range
@@ -39,125 +43,73 @@ pub fn range_at(b: &[i64], q: usize) -> Range
     }
 }
 
-// The range of quantity q becomes r.
-fn put(b: &mut [i64], q: usize, r: Range)
-    requires { Has b.old q }
-    ensures { b.new ≡ put_at b.old q r }
-{
-    let low = r.low;
-    let high = r.high;
-    b[2 * q] = low;
-    b[2 * q + 1] = high;
-}
-
-// Where an end of quantity q moves: its range becomes r, unless r is empty.
-fn replace(b: &mut [i64], q: usize, r: Range) -> Status
-    requires { Has b.old q }
-    ensures { Replaced q r b.old result b.new }
-{
-    if r.high < r.low {
-        return Status::Empty;
-    }
-    put(b, q, r);
-    Status::Changed
-}
-
-// Quantity q is cut to s, unless the box is empty already.
-fn cut(b: &mut [i64], q: usize, s: Range, prior: Status) -> Status
-    requires fact_1 { Fine b.old }
-    requires fact_2 { Has b.old q }
-    ensures { Done ((λ _. to q s) ∷ []) prior b.old result b.new }
-{
-    if let Status::Empty = prior {
-        return Status::Empty;
-    }
-    let old = range_at(b, q);
-    let low = whole::larger(old.low, s.low);
-    let high = whole::smaller(old.high, s.high);
-    if high < low {
-        return Status::Empty;
-    }
-    if old.low < low {
-        put(b, q, Range { low, high });
-        return Status::Changed;
-    }
-    if high < old.high {
-        put(b, q, Range { low, high });
-        return Status::Changed;
-    }
-    prior
-}
-
 // One primitive narrows the box.
-fn narrow_primitive(b: &mut [i64], p: Primitive, prior: Status) -> Status
-    requires fact_1 { Fine b.old }
-    requires fact_2 { Sited b.old p }
-    ensures { Done (primitive_steps p) prior b.old result b.new }
+fn narrow_primitive(frame: &mut frame::Frame, p: Primitive, changed: bool) -> Result<bool, Emptied>
+    requires { Sited frame.old.ends.now p }
+    ensures { Narrowed (primitive_steps p) changed frame.old.ends result frame.new.ends }
 {
     match p {
-        Primitive::Sum { z, x, y } => sum::narrow(b, z, x, y, prior),
-        Primitive::Product { z, x, y } => product::narrow(b, z, x, y, prior),
-        Primitive::Square { z, x } => square::narrow(b, z, x, prior),
+        Primitive::Sum { z, x, y } => sum::narrow(frame, z, x, y, changed),
+        Primitive::Product { z, x, y } => product::narrow(frame, z, x, y, changed),
+        Primitive::Square { z, x } => square::narrow(frame, z, x, changed),
     }
 }
 
 // The primitives in order, until a range is empty.
-fn sweep_primitives(b: &mut [i64], primitives: &[i64], lengths: &[i64], literals: &[i64]) -> Status
-    requires fact_1 { Fine b.old }
-    requires fact_2 { Placed (quantities b.old) primitives.now lengths.now literals.now }
-    ensures { Done (all_steps (primitives_of primitives.now)) Status.Same b.old result b.new }
+fn sweep_primitives(frame: &mut frame::Frame, problem: Problem) -> Result<bool, Emptied>
+    requires { Placed (quantities frame.old.ends.now) problem.primitives.now problem.lengths.now problem.literals.now }
+    ensures { Narrowed (all_steps (primitives_of problem.entry.primitives.now)) false frame.old.ends result frame.new.ends }
 {
-    let count = primitives.len() / 4;
-    let mut status = Status::Same;
-    let mut i = 0;
-    while i < count {
-        let p = problem::primitive_at(primitives, i);
-        status = narrow_primitive(b, p, status);
-        if let Status::Empty = status {
-            return Status::Empty;
-        }
-        i += 1;
+    let mut changed = false;
+    for i in 0..problem.primitives.len() / 4 {
+        changed = narrow_primitive(frame, problem::primitive_at(problem.primitives, i), changed)?;
     }
-    status
+    Ok(changed)
 }
 
 // The clauses in order, until a range is empty.
-fn sweep_clauses(
-    b: &mut [i64],
-    primitives: &[i64],
-    lengths: &[i64],
-    literals: &[i64],
-    prior: Status,
-) -> Status
-    requires fact_1 { Fine b.old }
-    requires fact_2 { Placed (quantities b.old) primitives.now lengths.now literals.now }
-    ensures { Done (map clause_step (clauses_of lengths.now (literals_of literals.now))) prior b.old result b.new }
+fn sweep_clauses(frame: &mut frame::Frame, problem: Problem, before: bool) -> Result<bool, Emptied>
+    requires { Placed (quantities frame.old.ends.now) problem.primitives.now problem.lengths.now problem.literals.now }
+    ensures { Narrowed (map clause_step (clauses_of problem.entry.lengths.now (literals_of problem.entry.literals.now))) before frame.old.ends result frame.new.ends }
 {
-    let mut status = prior;
-    let mut from = 0;
-    let mut i = 0;
-    while i < lengths.len() {
-        let length = lengths[i];
-        let next = from + 3 * (length as usize);
-        status = clause::narrow(b, &literals[from..next], status);
-        if let Status::Empty = status {
-            return Status::Empty;
-        }
-        from = next;
-        i += 1;
+    let mut changed = before;
+    let mut left = problem.literals;
+    for length in problem.lengths {
+        let (clause, rest) = left.split_at(3 * (*length as usize));
+        changed = clause::narrow(frame, clause, changed)?;
+        left = rest;
     }
-    status
+    Ok(changed)
 }
 
-// One sweep: primitives in order, then clauses in order.
-pub fn sweep(b: &mut [i64], primitives: &[i64], lengths: &[i64], literals: &[i64]) -> Status
-    requires fact_1 { Fine b.old }
-    requires fact_2 { Placed (quantities b.old) primitives.now lengths.now literals.now }
-    ensures { Sweeps (primitives_of primitives.now) (clauses_of lengths.now (literals_of literals.now)) b.old result b.new }
+// The primitives in order, then the clauses in order.
+fn sweep_all(frame: &mut frame::Frame, problem: Problem) -> Result<bool, Emptied>
+    requires { Placed (quantities frame.old.ends.now) problem.primitives.now problem.lengths.now problem.literals.now }
+    ensures { Narrowed (sweep_steps (primitives_of problem.entry.primitives.now) (clauses_of problem.entry.lengths.now (literals_of problem.entry.literals.now))) false frame.old.ends result frame.new.ends }
 {
-    let status = sweep_primitives(b, primitives, lengths, literals);
-    if let Status::Empty = status {
-        return Status::Empty;
+    let changed = sweep_primitives(frame, problem)?;
+    sweep_clauses(frame, problem, changed)
+}
+
+// The sweep of a box that is lent for it.
+fn sweep_lent(b: &mut [i64], problem: Problem) -> Result<bool, Emptied>
+    requires fact_1 { Fine b.old }
+    requires fact_2 { Placed (quantities b.old) problem.primitives.now problem.lengths.now problem.literals.now }
+    ensures { Done (sweep_steps (primitives_of problem.entry.primitives.now) (clauses_of problem.entry.lengths.now (literals_of problem.entry.literals.now))) false b.old result b.new }
+{
+    let mut frame = frame::Frame { ends: b };
+    sweep_all(&mut frame, problem)
+}
+
+// One sweep, and what has become of the box.
+pub fn sweep(b: &mut [i64], problem: Problem) -> Status
+    requires fact_1 { Fine b.old }
+    requires fact_2 { Placed (quantities b.old) problem.primitives.now problem.lengths.now problem.literals.now }
+    ensures { Sweeps (primitives_of problem.entry.primitives.now) (clauses_of problem.entry.lengths.now (literals_of problem.entry.literals.now)) b.old result b.new }
+{
+    match sweep_lent(b, problem) {
+        Err(Emptied) => Status::Empty,
+        Ok(true) => Status::Changed,
+        Ok(false) => Status::Same,
     }
-    sweep_clauses(b, primitives, lengths, literals, status)
 }

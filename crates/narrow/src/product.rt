@@ -3,40 +3,43 @@ ghost use Rattle.std.specs.Prelude.{true, false, [], ◌∷◌, ◌≡◌, pos, 
 ghost use Rattle.whole.specs.inner.Held.{Good};
 ghost use Rattle.problem.specs.Problem.{range_at};
 ghost use Rattle.narrow.specs.Narrowing.{product_step, trim_step, quotient_span, quotient_step, product_steps};
-ghost use Rattle.narrow.specs.declared.Status.{Status};
-ghost use Rattle.narrow.specs.declared.Status.TheVariants.{Empty};
-ghost use Rattle.narrow.specs.inner.Done.{Has, Fine, Done};
+ghost use Rattle.narrow.specs.inner.Done.{Has, Narrowed};
 ghost use Rattle.narrow.specs.inner.Product.{Moving, Trimming};
 
-use crate::Status;
+use crate::Emptied;
+use crate::frame::Frame;
 use whole::Range;
 
 // z is cut to the range of x * y.
-fn cut_product(b: &mut [i64], z: usize, x: usize, y: usize, prior: Status) -> Status
-    requires fact_1 { Fine b.old }
-    requires fact_2 { Has b.old z }
-    requires fact_3 { Has b.old x }
-    requires fact_4 { Has b.old y }
-    ensures { Done (product_step z x y ∷ []) prior b.old result b.new }
+fn cut_product(
+    frame: &mut Frame,
+    z: usize,
+    x: usize,
+    y: usize,
+    changed: bool,
+) -> Result<bool, Emptied>
+    requires fact_1 { Has frame.old.ends.now z }
+    requires fact_2 { Has frame.old.ends.now x }
+    requires fact_3 { Has frame.old.ends.now y }
+    ensures { Narrowed (product_step z x y ∷ []) changed frame.old.ends result frame.new.ends }
 {
-    let p = crate::range_at(b, x);
-    let q = crate::range_at(b, y);
+    let p = frame.range_at(x);
+    let q = frame.range_at(y);
     if p.low < 0 || q.low < 0 {
         let s = whole::span::product(p, q);
-        return crate::cut(b, z, s, prior);
+        return frame.cut(z, s, changed);
     }
     let s = whole::span::product_above(p, q);
-    crate::cut(b, z, s, prior)
+    frame.cut(z, s, changed)
 }
 
 // Whether y's range has a 0 at an end, and it goes because z's range holds none. A range that lies above 0 is told by its low end alone.
-fn trims(b: &[i64], y: usize, z: usize) -> bool
-    requires fact_1 { Fine b.now }
-    requires fact_2 { Has b.now y }
-    requires fact_3 { Has b.now z }
-    ensures { Trimming (range_at b.now y) (range_at b.now z) result }
+fn trims(frame: &Frame, y: usize, z: usize) -> bool
+    requires fact_1 { Has frame.now.ends.now y }
+    requires fact_2 { Has frame.now.ends.now z }
+    ensures { Trimming (range_at frame.now.ends.now y) (range_at frame.now.ends.now z) result }
 {
-    let by = crate::range_at(b, y);
+    let by = frame.range_at(y);
     if 0 < by.low {
         return false;
     }
@@ -48,23 +51,25 @@ fn trims(b: &[i64], y: usize, z: usize) -> bool
             return false;
         }
     }
-    !whole::span::holds_zero(crate::range_at(b, z))
+    !whole::span::holds_zero(frame.range_at(z))
 }
 
-// It goes: low 0 becomes 1, which leaves nothing of [0, 0]; high 0 becomes -1.
-fn trim(b: &mut [i64], y: usize, z: usize) -> Status
-    requires fact_1 { Fine b.old }
-    requires fact_2 { Has b.old y }
-    requires fact_3 { Trimming (range_at b.old y) (range_at b.old z) true }
-    ensures { (p : Status) → (p ≡ Empty → ⊥) → Done (trim_step y z ∷ []) p b.old result b.new }
+// y is trimmed: low 0 becomes 1, which leaves nothing of [0, 0]; high 0 becomes -1.
+fn trim(frame: &mut Frame, y: usize, z: usize, changed: bool) -> Result<bool, Emptied>
+    requires fact_1 { Has frame.old.ends.now y }
+    requires fact_2 { Has frame.old.ends.now z }
+    ensures { Narrowed (trim_step y z ∷ []) changed frame.old.ends result frame.new.ends }
 {
-    let old = crate::range_at(b, y);
+    if !trims(frame, y, z) {
+        return Ok(changed);
+    }
+    let old = frame.range_at(y);
     if old.low < 0 {
         let low = old.low;
-        return crate::replace(b, y, Range { low, high: -1 });
+        return frame.replace(y, Range { low, high: -1 });
     }
     let high = old.high;
-    crate::replace(b, y, Range { low: 1, high })
+    frame.replace(y, Range { low: 1, high })
 }
 
 // The quotients of z by y above 0: the sign of z's end says which end of y gives the least and which the greatest.
@@ -98,19 +103,18 @@ fn quotient_below(z: Range, y: Range) -> Range
 }
 
 // Whether the quotients of z by y above 0 move an end of x: products tell, without a division.
-fn moves(b: &[i64], x: usize, z: usize, y: usize) -> bool
-    requires fact_1 { Fine b.now }
-    requires fact_2 { Has b.now x }
-    requires fact_3 { Has b.now z }
-    requires fact_4 { Has b.now y }
-    ensures { Moving (range_at b.now x) (range_at b.now z) (range_at b.now y) result }
+fn moves(frame: &Frame, x: usize, z: usize, y: usize) -> bool
+    requires fact_1 { Has frame.now.ends.now x }
+    requires fact_2 { Has frame.now.ends.now z }
+    requires fact_3 { Has frame.now.ends.now y }
+    ensures { Moving (range_at frame.now.ends.now x) (range_at frame.now.ends.now z) (range_at frame.now.ends.now y) result }
 {
-    let by = crate::range_at(b, y);
+    let by = frame.range_at(y);
     if by.low <= 0 {
         return false;
     }
-    let old = crate::range_at(b, x);
-    let of = crate::range_at(b, z);
+    let old = frame.range_at(x);
+    let of = frame.range_at(z);
     let least = if of.low < 0 { by.low } else { by.high };
     if whole::product::below(old.low, least, of.low) {
         return true;
@@ -119,69 +123,63 @@ fn moves(b: &[i64], x: usize, z: usize, y: usize) -> bool
     whole::product::above(old.high, greatest, of.high)
 }
 
-// x becomes what the quotients of z by y above 0 leave of it, where they move an end.
-fn divide(b: &mut [i64], x: usize, z: usize, y: usize) -> Status
-    requires fact_1 { Fine b.old }
-    requires fact_2 { Has b.old x }
-    requires fact_3 { Has b.old z }
-    requires fact_4 { Has b.old y }
-    requires fact_5 { Moving (range_at b.old x) (range_at b.old z) (range_at b.old y) true }
-    ensures { (p : Status) → (p ≡ Empty → ⊥) → Done (quotient_step x z y ∷ []) p b.old result b.new }
-{
-    let s = quotient_above(crate::range_at(b, z), crate::range_at(b, y));
-    let old = crate::range_at(b, x);
-    let low = whole::larger(old.low, s.low);
-    let high = whole::smaller(old.high, s.high);
-    crate::replace(b, x, Range { low, high })
-}
-
 // x is cut to the quotients of z by y if y is below 0; else it stays, as no end moves.
-fn cut_below(b: &mut [i64], x: usize, z: usize, y: usize, prior: Status) -> Status
-    requires fact_1 { Fine b.old }
-    requires fact_2 { Has b.old x }
-    requires fact_3 { Has b.old z }
-    requires fact_4 { Has b.old y }
-    requires fact_5 { Moving (range_at b.old x) (range_at b.old z) (range_at b.old y) false }
-    ensures { Done (quotient_step x z y ∷ []) prior b.old result b.new }
+fn cut_below(
+    frame: &mut Frame,
+    x: usize,
+    z: usize,
+    y: usize,
+    changed: bool,
+) -> Result<bool, Emptied>
+    requires fact_1 { Has frame.old.ends.now x }
+    requires fact_2 { Has frame.old.ends.now z }
+    requires fact_3 { Has frame.old.ends.now y }
+    requires fact_4 { Moving (range_at frame.old.ends.now x) (range_at frame.old.ends.now z) (range_at frame.old.ends.now y) false }
+    ensures { Narrowed (quotient_step x z y ∷ []) changed frame.old.ends result frame.new.ends }
 {
-    let by = crate::range_at(b, y);
+    let by = frame.range_at(y);
     if 0 <= by.high {
-        return prior;
+        return Ok(changed);
     }
-    let s = quotient_below(crate::range_at(b, z), by);
-    crate::cut(b, x, s, prior)
+    let s = quotient_below(frame.range_at(z), by);
+    frame.cut(x, s, changed)
 }
 
-// The cuts of a product, until a range is empty.
-pub fn narrow(b: &mut [i64], z: usize, x: usize, y: usize, prior: Status) -> Status
-    requires fact_1 { Fine b.old }
-    requires fact_2 { Has b.old z }
-    requires fact_3 { Has b.old x }
-    requires fact_4 { Has b.old y }
-    ensures { Done (product_steps z x y) prior b.old result b.new }
+// x is cut to the quotients of z by y, unless y holds 0: where y is above 0 and they move an end, x becomes what they leave of it.
+// Inlined at both calls, as sweeps took a seventh longer where it was called.
+#[inline(always)]
+fn divide(frame: &mut Frame, x: usize, z: usize, y: usize, changed: bool) -> Result<bool, Emptied>
+    requires fact_1 { Has frame.old.ends.now x }
+    requires fact_2 { Has frame.old.ends.now z }
+    requires fact_3 { Has frame.old.ends.now y }
+    ensures { Narrowed (quotient_step x z y ∷ []) changed frame.old.ends result frame.new.ends }
 {
-    let first = cut_product(b, z, x, y, prior);
-    if let Status::Empty = first {
-        return Status::Empty;
+    if !moves(frame, x, z, y) {
+        return cut_below(frame, x, z, y, changed);
     }
-    let second = if trims(b, y, z) { trim(b, y, z) } else { first };
-    if let Status::Empty = second {
-        return Status::Empty;
-    }
-    let third = if moves(b, x, z, y) {
-        divide(b, x, z, y)
-    } else {
-        cut_below(b, x, z, y, second)
-    };
-    if let Status::Empty = third {
-        return Status::Empty;
-    }
-    let fourth = if trims(b, x, z) { trim(b, x, z) } else { third };
-    if let Status::Empty = fourth {
-        return Status::Empty;
-    }
-    if moves(b, y, z, x) {
-        return divide(b, y, z, x);
-    }
-    cut_below(b, y, z, x, fourth)
+    let s = quotient_above(frame.range_at(z), frame.range_at(y));
+    let old = frame.range_at(x);
+    let low = old.low.max(s.low);
+    let high = old.high.min(s.high);
+    frame.replace(x, Range { low, high })
+}
+
+// The five cuts of a product, until a range is empty.
+pub fn narrow(
+    frame: &mut Frame,
+    z: usize,
+    x: usize,
+    y: usize,
+    changed: bool,
+) -> Result<bool, Emptied>
+    requires fact_1 { Has frame.old.ends.now z }
+    requires fact_2 { Has frame.old.ends.now x }
+    requires fact_3 { Has frame.old.ends.now y }
+    ensures { Narrowed (product_steps z x y) changed frame.old.ends result frame.new.ends }
+{
+    let changed = cut_product(frame, z, x, y, changed)?;
+    let changed = trim(frame, y, z, changed)?;
+    let changed = divide(frame, x, z, y, changed)?;
+    let changed = trim(frame, x, z, changed)?;
+    divide(frame, y, z, x, changed)
 }

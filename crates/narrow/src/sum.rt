@@ -1,43 +1,53 @@
 // z = x + y.
 ghost use Rattle.std.specs.Prelude.{[], ◌∷◌};
 ghost use Rattle.narrow.specs.Narrowing.{sum_step, difference_step, sum_steps};
-ghost use Rattle.narrow.specs.inner.Done.{Has, Fine, Done};
+ghost use Rattle.narrow.specs.inner.Done.{Has, Narrowed};
 
-use crate::Status;
+use crate::Emptied;
+use crate::frame::Frame;
 
 // z is cut to the range of x + y.
-fn cut_sum(b: &mut [i64], z: usize, x: usize, y: usize, prior: Status) -> Status
-    requires fact_1 { Fine b.old }
-    requires fact_2 { Has b.old z }
-    requires fact_3 { Has b.old x }
-    requires fact_4 { Has b.old y }
-    ensures { Done (sum_step z x y ∷ []) prior b.old result b.new }
+fn cut_sum(frame: &mut Frame, z: usize, x: usize, y: usize, changed: bool) -> Result<bool, Emptied>
+    requires fact_1 { Has frame.old.ends.now z }
+    requires fact_2 { Has frame.old.ends.now x }
+    requires fact_3 { Has frame.old.ends.now y }
+    ensures { Narrowed (sum_step z x y ∷ []) changed frame.old.ends result frame.new.ends }
 {
-    let s = whole::span::sum(crate::range_at(b, x), crate::range_at(b, y));
-    crate::cut(b, z, s, prior)
+    let s = whole::span::sum(frame.range_at(x), frame.range_at(y));
+    frame.cut(z, s, changed)
 }
 
 // x is cut to the range of z - y.
-fn cut_difference(b: &mut [i64], x: usize, z: usize, y: usize, prior: Status) -> Status
-    requires fact_1 { Fine b.old }
-    requires fact_2 { Has b.old x }
-    requires fact_3 { Has b.old z }
-    requires fact_4 { Has b.old y }
-    ensures { Done (difference_step x z y ∷ []) prior b.old result b.new }
+fn cut_difference(
+    frame: &mut Frame,
+    x: usize,
+    z: usize,
+    y: usize,
+    changed: bool,
+) -> Result<bool, Emptied>
+    requires fact_1 { Has frame.old.ends.now x }
+    requires fact_2 { Has frame.old.ends.now z }
+    requires fact_3 { Has frame.old.ends.now y }
+    ensures { Narrowed (difference_step x z y ∷ []) changed frame.old.ends result frame.new.ends }
 {
-    let s = whole::span::difference(crate::range_at(b, z), crate::range_at(b, y));
-    crate::cut(b, x, s, prior)
+    let s = whole::span::difference(frame.range_at(z), frame.range_at(y));
+    frame.cut(x, s, changed)
 }
 
 // The three cuts of a sum.
-pub fn narrow(b: &mut [i64], z: usize, x: usize, y: usize, prior: Status) -> Status
-    requires fact_1 { Fine b.old }
-    requires fact_2 { Has b.old z }
-    requires fact_3 { Has b.old x }
-    requires fact_4 { Has b.old y }
-    ensures { Done (sum_steps z x y) prior b.old result b.new }
+pub fn narrow(
+    frame: &mut Frame,
+    z: usize,
+    x: usize,
+    y: usize,
+    changed: bool,
+) -> Result<bool, Emptied>
+    requires fact_1 { Has frame.old.ends.now z }
+    requires fact_2 { Has frame.old.ends.now x }
+    requires fact_3 { Has frame.old.ends.now y }
+    ensures { Narrowed (sum_steps z x y) changed frame.old.ends result frame.new.ends }
 {
-    let first = cut_sum(b, z, x, y, prior);
-    let second = cut_difference(b, x, z, y, first);
-    cut_difference(b, y, z, x, second)
+    let changed = cut_sum(frame, z, x, y, changed)?;
+    let changed = cut_difference(frame, x, z, y, changed)?;
+    cut_difference(frame, y, z, x, changed)
 }

@@ -1,8 +1,7 @@
 pub mod Tests
 pub mod Lists
-pub mod Judging
+pub mod Groups
 pub mod Scanning
-pub mod Reading
 pub mod Placing
 pub mod Unmet
 pub mod Defining

@@ -1,64 +1,22 @@
--- The loops of grounds 2 to 5: what a list is judged is what the rest from a place on is judged, until an entry decides or none is left.
-use mathlib.Core.Path.{◌≡◌, refl, sym, ap, ap₂, ◌∙◌}
+-- The loop of ground 2: what the clause lengths are judged is what the rest from a place on is judged, until a length decides or none is left.
+use mathlib.Core.Path.{◌≡◌, refl, sym, ap, ◌∙◌}
 use mathlib.Core.Bool.{Bool, true, false, not, ◌||◌}
 use mathlib.Core.List.{List, [], ◌∷◌}
 use Prim.Native.Nat.{ℕ, ◌+◌, ◌*◌, ◌≤◌, ◌<◌}
-use native.Mathlib.Omega.{arith}
 use lib.Dec.{eqb}
 use lib.ListN.{length, get_or, drop, drop_of_length-le}
 use lib.IntN.{ℤ, pos, nat_abs, ◌+ℤ◌, ◌*ℤ◌}
 use lib.Signed.{lt_z, ◌≤ℤ◌}
-use mir.Syntax.{w64}
-use mir.Val.{Fits}
 use Rattle.whole.proofs.Kit.{ints, plus, times, nat_abs_is, apart}
-use Rattle.problem.specs.Grounds.{differ, bad_range, bad_ranges, bad_primitive, bad_primitives, bad_literal, bad_literals, any_negative, total}
+use Rattle.problem.specs.Grounds.{differ, any_negative, total}
 use Rattle.problem.proofs.Tests.{or_yes, or_no, or_first, or_second, by_bool, differ_is}
-use Rattle.problem.proofs.Lists.{drop1, ranges_at, ranges_end, bad_primitives_at, bad_primitives_end, bad_literals_at, bad_literals_end}
+use Rattle.problem.proofs.Lists.{drop1}
 
 scan_hit : {w r : Bool} (t u : Bool) → w ≡ (t || u) → r ≡ t → r ≡ true → true ≡ w
 scan_hit t u e f g = or_yes t u (sym f ∙ g) ∙ sym e
 
 scan_turn : {w r : Bool} (t u : Bool) → w ≡ (t || u) → r ≡ t → r ≡ false → w ≡ u
 scan_turn t u e f g = e ∙ sym (or_no t u (sym f ∙ g) refl)
-
-module _ (rs : List ℤ) (q : ℕ) (inv : bad_ranges rs ≡ bad_ranges (drop (2 * q) rs)) where
-  module _ (has : 2 * q + 1 < length rs) {l h : ℤ} {r : Bool} (el : l ≡ get_or rs (2 * q) (pos 0)) (eh : h ≡ get_or rs (2 * q + 1) (pos 0)) (said : r ≡ bad_range l h) where
-    pub ranges_hit : r ≡ true → true ≡ bad_ranges rs
-    ranges_hit = scan_hit _ _ (inv ∙ ranges_at rs q has) (said ∙ ap₂ bad_range el eh)
-
-    pub ranges_turn : r ≡ false → bad_ranges rs ≡ bad_ranges (drop (2 * (q + 1)) rs)
-    ranges_turn = scan_turn _ _ (inv ∙ ranges_at rs q has) (said ∙ ap₂ bad_range el eh)
-
-  pub ranges_done : length rs ≤ 2 * q + 1 → false ≡ bad_ranges rs
-  ranges_done h = sym (inv ∙ ranges_end rs q h)
-
-module _ (n : ℕ) (ps : List ℤ) (i : ℕ) (inv : bad_primitives n ps ≡ bad_primitives n (drop (4 * i) ps)) where
-  module _ (has : 4 * i + 3 < length ps) {k z x y : ℤ} {r : Bool} (ek : k ≡ get_or ps (4 * i) (pos 0)) (ez : z ≡ get_or ps (4 * i + 1) (pos 0)) (ex : x ≡ get_or ps (4 * i + 2) (pos 0)) (ey : y ≡ get_or ps (4 * i + 3) (pos 0)) (said : r ≡ bad_primitive n k z x y) where
-    here : r ≡ bad_primitive n (get_or ps (4 * i) (pos 0)) (get_or ps (4 * i + 1) (pos 0)) (get_or ps (4 * i + 2) (pos 0)) (get_or ps (4 * i + 3) (pos 0))
-    here = said ∙ ap₂ (λ a b. bad_primitive n a b x y) ek ez ∙ ap₂ (bad_primitive n (get_or ps (4 * i) (pos 0)) (get_or ps (4 * i + 1) (pos 0))) ex ey
-
-    pub primitives_hit : r ≡ true → true ≡ bad_primitives n ps
-    primitives_hit = scan_hit _ _ (inv ∙ bad_primitives_at n ps i has) here
-
-    pub primitives_turn : r ≡ false → bad_primitives n ps ≡ bad_primitives n (drop (4 * (i + 1)) ps)
-    primitives_turn = scan_turn _ _ (inv ∙ bad_primitives_at n ps i has) here
-
-  pub primitives_done : length ps ≤ 4 * i + 3 → false ≡ bad_primitives n ps
-  primitives_done h = sym (inv ∙ bad_primitives_end n ps i h)
-
-module _ (n : ℕ) (ls : List ℤ) (i : ℕ) (inv : bad_literals n ls ≡ bad_literals n (drop (3 * i) ls)) where
-  module _ (has : 3 * i + 2 < length ls) {q s c : ℤ} {r : Bool} (eq : q ≡ get_or ls (3 * i) (pos 0)) (es : s ≡ get_or ls (3 * i + 1) (pos 0)) (ec : c ≡ get_or ls (3 * i + 2) (pos 0)) (said : r ≡ bad_literal n q s c) where
-    there : r ≡ bad_literal n (get_or ls (3 * i) (pos 0)) (get_or ls (3 * i + 1) (pos 0)) (get_or ls (3 * i + 2) (pos 0))
-    there = said ∙ ap₂ (λ a b. bad_literal n a b c) eq es ∙ ap (bad_literal n (get_or ls (3 * i) (pos 0)) (get_or ls (3 * i + 1) (pos 0))) ec
-
-    pub literals_hit : r ≡ true → true ≡ bad_literals n ls
-    literals_hit = scan_hit _ _ (inv ∙ bad_literals_at n ls i has) there
-
-    pub literals_turn : r ≡ false → bad_literals n ls ≡ bad_literals n (drop (3 * (i + 1)) ls)
-    literals_turn = scan_turn _ _ (inv ∙ bad_literals_at n ls i has) there
-
-  pub literals_done : length ls ≤ 3 * i + 2 → false ≡ bad_literals n ls
-  literals_done h = sym (inv ∙ bad_literals_end n ls i h)
 
 -- ---- clause lengths: none so far is below 0, and what was summed and what is left make up the total
 pub negative_at : (ns : List ℤ) (i : ℕ) → i < length ns → any_negative (drop i ns) ≡ (lt_z (get_or ns i (pos 0)) (pos 0) || any_negative (drop (i + 1) ns))
@@ -116,6 +74,3 @@ module _ (ns : List ℤ) (size sum i : ℕ) (signs : any_negative ns ≡ any_neg
 module _ (n : ℤ) (sum i : ℕ) (sums : sum ≤ 1024 * i) (low : lt_z n (pos 0) ≡ false) (high : lt_z (pos 1024) n ≡ false) where
   pub sum_small : sum + nat_abs n ≤ 1024 * (i + 1)
   sum_small = omega (ints, nat_abs_is n, apart n)
-
-  pub sum_fits : i < 256 → Fits w64 (sum + nat_abs n)
-  sum_fits h = record { fits = omega (arith, sum_small) }

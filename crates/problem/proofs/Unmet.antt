@@ -1,6 +1,6 @@
 -- Lists are sound exactly if each of the five tests is false; then the quantities are 1 to 128, and every range is good.
 use mathlib.Core.Path.{◌≡◌, sym, ◌∙◌}
-use mathlib.Core.Bool.{Bool, false, ◌||◌}
+use mathlib.Core.Bool.{Bool, true, false, ◌||◌}
 use mathlib.Core.List.{List}
 use Prim.Native.Nat.{ℕ, zero, suc, ◌+◌, ◌*◌, ◌%◌, ◌≤◌, ◌<◌}
 use native.Mathlib.Omega.{arith}
@@ -17,10 +17,10 @@ use Rattle.problem.specs.Problem.{quantities, range_at}
 use Rattle.problem.specs.Grounds.{beyond, bad_quantities, bad_lists, bad_range, bad_ranges, bad_primitives, bad_literals, judge_of}
 use Rattle.problem.specs.inner.Placed.{Placed}
 use Rattle.problem.specs.declared.Refusal.{Refusal}
-use Rattle.problem.specs.declared.Judged.TheVariants.{Sound, Refused}
+use Rattle.problem.specs.declared.Refusal.TheVariants.{Quantities, Lists, Ranges, Primitives, Literals}
+use Rattle.std.specs.Prelude.{Ok, Err}
 use Rattle.problem.proofs.Tests.{or_first, or_second, by_bool}
 use Rattle.problem.proofs.Lists.{ranges_at, ranges_end}
-use Rattle.problem.proofs.Judging.{met_1, met_2, met_3, met_4, met_5}
 use Rattle.problem.proofs.Placing.{within}
 
 pub record Unmet (rs ps ns ls : List ℤ) : Type 0 where
@@ -30,8 +30,35 @@ pub record Unmet (rs ps ns ls : List ℤ) : Type 0 where
   pub primitives : bad_primitives (quantities rs) ps ≡ false
   pub literals : bad_literals (quantities rs) ls ≡ false
 
+-- ---- the first ground met
 module _ (rs ps ns ls : List ℤ) where
-  pub sound_unmet : judge_of rs ps ns ls ≡ Sound → Unmet rs ps ns ls
+  met_1 : bad_quantities rs ≡ true → Err Quantities ≡ judge_of rs ps ns ls
+  unfolding judge_of
+  met_1 a = rw a
+
+  module _ (a : bad_quantities rs ≡ false) where
+    met_2 : bad_lists ps ns ls ≡ true → Err Lists ≡ judge_of rs ps ns ls
+    unfolding judge_of
+    met_2 b = rw (a, b)
+
+    module _ (b : bad_lists ps ns ls ≡ false) where
+      met_3 : bad_ranges rs ≡ true → Err Ranges ≡ judge_of rs ps ns ls
+      unfolding judge_of
+      met_3 c = rw (a, b, c)
+
+      module _ (c : bad_ranges rs ≡ false) where
+        met_4 : bad_primitives (quantities rs) ps ≡ true → Err Primitives ≡ judge_of rs ps ns ls
+        unfolding judge_of
+        met_4 d = rw (a, b, c, d)
+
+        module _ (d : bad_primitives (quantities rs) ps ≡ false) where
+          met_5 : bad_literals (quantities rs) ls ≡ true → Err Literals ≡ judge_of rs ps ns ls
+          unfolding judge_of
+          met_5 e = rw (a, b, c, d, e)
+
+-- ---- none is met
+module _ (rs ps ns ls : List ℤ) where
+  pub sound_unmet : judge_of rs ps ns ls ≡ Ok tt → Unmet rs ps ns ls
   sound_unmet s =
       by_bool (bad_quantities rs) (λ t. no (met_1 rs ps ns ls t))
       (λ a. by_bool (bad_lists ps ns ls) (λ t. no (met_2 rs ps ns ls a t))
@@ -40,7 +67,7 @@ module _ (rs ps ns ls : List ℤ) where
       (λ d. by_bool (bad_literals (quantities rs) ls) (λ t. no (met_5 rs ps ns ls a b c d t))
       (λ e. record { counted = a; lists = b; ranges = c; primitives = d; literals = e })))))
     where
-      no : {g : Refusal} → Refused g ≡ judge_of rs ps ns ls → Unmet rs ps ns ls
+      no : {g : Refusal} → Err g ≡ judge_of rs ps ns ls → Unmet rs ps ns ls
       no e = absurd (let z : ◌≡◌ {A = ℕ} 0 1 = cc in omega arith)
 
   pub unmet_placed : Unmet rs ps ns ls → Placed (quantities rs) ps ns ls

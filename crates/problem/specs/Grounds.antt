@@ -1,12 +1,10 @@
 -- Grounds 1 to 5 of document 01's "What a solve gives back", over lists of any numbers.
-use Rattle.std.specs.Prelude.{◌≡◌, Bool, false, not, cond, ◌||◌, List, [], ◌∷◌, ◌⊎◌, ℕ, ◌%◌, ◌<◌, eqb, ltb, length, ℤ, pos, ◌+ℤ◌, ◌*ℤ◌}
+use Rattle.std.specs.Prelude.{◌≡◌, Bool, false, not, cond, ◌||◌, List, [], ◌∷◌, ◌⊎◌, Result, Ok, Err, ℕ, ◌%◌, ◌<◌, eqb, ltb, length, ℤ, pos, ◌+ℤ◌, ◌*ℤ◌}
 use Rattle.std.specs.Int.Signed.{lt_z, le_z}
 use Rattle.whole.specs.Numbers.{M, minus_m}
 use Rattle.problem.specs.Problem.{quantities}
 use Rattle.problem.specs.declared.Refusal.{Refusal}
 use Rattle.problem.specs.declared.Refusal.TheVariants.{Quantities, Lists, Ranges, Primitives, Literals, Budget, Room, Leading}
-use Rattle.problem.specs.declared.Judged.{Judged}
-use Rattle.problem.specs.declared.Judged.TheVariants.{Sound, Refused}
 
 -- two numbers are not the same
 abbrev pub differ : ℤ → ℤ → Bool
@@ -82,13 +80,13 @@ bad_literals n (q ∷ (s ∷ [])) = false
 bad_literals n (q ∷ (s ∷ (c ∷ ls))) = bad_literal n q s c || bad_literals n ls
 
 -- the first ground met
-unfoldable pub judge_of : List ℤ → List ℤ → List ℤ → List ℤ → Judged
+unfoldable pub judge_of : List ℤ → List ℤ → List ℤ → List ℤ → Result (Unit {0}) Refusal
 judge_of rs ps ns ls =
-    cond (bad_quantities rs) (Refused Quantities)
-    (cond (bad_lists ps ns ls) (Refused Lists)
-    (cond (bad_ranges rs) (Refused Ranges)
-    (cond (bad_primitives (quantities rs) ps) (Refused Primitives)
-    (cond (bad_literals (quantities rs) ls) (Refused Literals) Sound))))
+    cond (bad_quantities rs) (Err Quantities)
+    (cond (bad_lists ps ns ls) (Err Lists)
+    (cond (bad_ranges rs) (Err Ranges)
+    (cond (bad_primitives (quantities rs) ps) (Err Primitives)
+    (cond (bad_literals (quantities rs) ls) (Err Literals) (Ok tt)))))
 
 -- document 01's number of each refusal of a solve
 abbrev pub refusal_number : Refusal → ℕ

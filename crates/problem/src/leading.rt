@@ -4,16 +4,13 @@ ghost use Rattle.problem.specs.Lists.{primitives_of};
 ghost use Rattle.problem.specs.Leading.{makes, made, defined, bad_leading};
 ghost use Rattle.problem.specs.inner.Placed.{ReadableAll, Definable, Leadable};
 
-use crate::Primitive;
+use crate::{Primitive, Problem};
 
 // Whether a is q, and b and c are lower-numbered.
 fn over_lower(a: usize, b: usize, c: usize, q: usize) -> bool
     ensures { result ≡ (eqb a q && (ltb b q && ltb c q)) }
 {
-    if a != q {
-        return false;
-    }
-    b < q && c < q
+    a == q && b < q && c < q
 }
 
 // Whether q is the result of a primitive over lower-numbered ones: z of any kind, or x or y of a sum.
@@ -22,13 +19,7 @@ fn is_result(primitive: Primitive, q: usize) -> bool
 {
     match primitive {
         Primitive::Sum { z, x, y } => {
-            if over_lower(z, x, y, q) {
-                return true;
-            }
-            if over_lower(x, z, y, q) {
-                return true;
-            }
-            over_lower(y, z, x, q)
+            over_lower(z, x, y, q) || over_lower(x, z, y, q) || over_lower(y, z, x, q)
         }
         Primitive::Product { z, x, y } => over_lower(z, x, y, q),
         Primitive::Square { z, x } => z == q && x < q,
@@ -40,16 +31,7 @@ fn is_made(primitives: &[i64], q: usize) -> bool
     requires { ReadableAll primitives.now }
     ensures { result ≡ made (primitives_of primitives.now) q }
 {
-    let count = primitives.len() / 4;
-    let mut i = 0;
-    while i < count {
-        let primitive = crate::primitive_at(primitives, i);
-        if is_result(primitive, q) {
-            return true;
-        }
-        i += 1;
-    }
-    false
+    (0..primitives.len() / 4).any(|i| is_result(crate::primitive_at(primitives, i), q))
 }
 
 // Whether the starting range of q is one value, or q is such a result.
@@ -57,30 +39,18 @@ fn is_defined(ranges: &[i64], primitives: &[i64], q: usize) -> bool
     requires { Definable ranges.now primitives.now q }
     ensures { result ≡ defined ranges.now (primitives_of primitives.now) q }
 {
-    if ranges[2 * q] < ranges[2 * q + 1] {
-        return is_made(primitives, q);
-    }
-    true
+    ranges[2 * q + 1] <= ranges[2 * q] || is_made(primitives, q)
 }
 
-// Ground 8: a leading number outside 1 to n, or a later quantity not so defined.
-pub fn bad_leading(ranges: &[i64], primitives: &[i64], leading: i64) -> bool
-    requires { Leadable ranges.now primitives.now }
-    ensures { result ≡ bad_leading ranges.now primitives.now leading }
-{
-    let n = ranges.len() / 2;
-    if leading < 1 {
-        return true;
+impl Problem<'_> {
+    // Ground 8: a leading number outside 1 to n, or a later quantity not so defined.
+    pub fn bad_leading(self, leading: i64) -> bool
+        requires { Leadable self.ranges.now self.primitives.now }
+        ensures { result ≡ bad_leading self.entry.ranges.now self.entry.primitives.now leading }
+    {
+        let n = self.ranges.len() / 2;
+        leading < 1
+            || (n as i64) < leading
+            || (leading as usize..n).any(|q| !is_defined(self.ranges, self.primitives, q))
     }
-    if (n as i64) < leading {
-        return true;
-    }
-    let mut q = leading as usize;
-    while q < n {
-        if !is_defined(ranges, primitives, q) {
-            return true;
-        }
-        q += 1;
-    }
-    false
 }

@@ -7,34 +7,22 @@ mod line_trials;
 mod pins;
 mod translating;
 
+use cases::table;
 use std::io;
-use std::rt::Files;
-
-// The refusals of sheets, with lists of the full sizes and with longer ones.
-fn sheet_refusals(rt: &(impl Files + Print)) -> io::Result<()> {
-    let mut buffer = [0u8; 65536];
-    let n = cases::table::load(rt, b"grounds.txt", &mut buffer);
-    grounds::compare(rt, b"refusals of sheets", &buffer[..n], 0)?;
-    grounds::compare(rt, b"refusals with longer lists", &buffer[..n], 7)
-}
-
-// The lines of a text.
-fn text_lines(rt: &(impl Files + Print)) -> io::Result<()> {
-    let mut buffer = [0u8; 65536];
-    let n = cases::table::load(rt, b"lines.txt", &mut buffer);
-    line_trials::compare(rt, &buffer[..n])
-}
-
-// The lists of sheets.
-fn pinned_lists(rt: &(impl Files + Print)) -> io::Result<()> {
-    let mut buffer = [0u8; 65536];
-    let n = cases::table::load(rt, b"pins.txt", &mut buffer);
-    pins::compare(rt, &buffer[..n])
-}
 
 // Runs every group.
 fn main(rt: HostRuntime) -> io::Result<()> {
-    sheet_refusals(&rt)?;
-    text_lines(&rt)?;
-    pinned_lists(&rt)
+    let alloc = rt.alloc();
+    table::compare(&rt, "refusals of sheets", "grounds.txt", |case| {
+        grounds::agrees(alloc, case, 0)
+    })?;
+    table::compare(&rt, "refusals with longer lists", "grounds.txt", |case| {
+        grounds::agrees(alloc, case, 7)
+    })?;
+    table::compare(&rt, "lines of a text", "lines.txt", |case| {
+        line_trials::agrees(alloc, case)
+    })?;
+    table::compare(&rt, "pinned lists", "pins.txt", |case| {
+        pins::agrees(alloc, case)
+    })
 }

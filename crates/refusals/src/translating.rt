@@ -1,209 +1,116 @@
-// Calls of translate on the fronts of longer lists, and what it leaves in them.
-use cases::{lists, text};
-use meaning::Refusal;
-use translate::Translated;
+// Calls of translate with marked lists, and what it leaves in them.
+use cases::fields::Fields;
+use cases::marks::Marked;
+use problem::Problem;
+use std::alloc::{AllocError, Global};
+use translate::{Counts, Refused};
 
-// The full sizes: ranges, primitives, lengths, literals, bytes of names.
-const RANGES: usize = 256;
-
-const PRIMITIVES: usize = 1_024;
-
-const LENGTHS: usize = 256;
-
-const LITERALS: usize = 3_072;
-
-const NAMES: usize = 1_024;
+// The counts of a refusal: none of the lists is written.
+const NOTHING: Counts = Counts {
+    quantities: 0,
+    declared: 0,
+    primitives: 0,
+    clauses: 0,
+    literals: 0,
+};
 
 // How many numbers of each list are lent.
-#[derive(Drop)]
-pub struct Sizes {
-    pub ranges: usize,
-    pub primitives: usize,
-    pub lengths: usize,
-    pub literals: usize,
-    pub names: usize,
-}
-
-// What a translation answers, in numbers: 0 for an accepted sheet.
 #[derive(Clone, Copy)]
-pub struct Outcome {
-    pub number: usize,
-    pub line: usize,
-    pub quantities: usize,
-    pub declared: usize,
-    pub primitives: usize,
-    pub clauses: usize,
-    pub literals: usize,
+pub struct Sizes {
+    ranges: usize,
+    primitives: usize,
+    lengths: usize,
+    literals: usize,
+    names: usize,
 }
 
-// The full sizes, and so many more numbers in each list.
-pub fn full(more: usize) -> Sizes {
-    let beyond = more % 8;
-    Sizes {
-        ranges: RANGES + beyond,
-        primitives: PRIMITIVES + beyond,
-        lengths: LENGTHS + beyond,
-        literals: LITERALS + beyond,
-        names: NAMES + beyond,
-    }
-}
-
-// A count taken twice.
-pub fn twice(v: usize) -> usize {
-    std::num::wrapping_add_usize(v, v)
-}
-
-// A count taken three times.
-pub fn thrice(v: usize) -> usize {
-    std::num::wrapping_add_usize(twice(v), v)
-}
-
-// The mark that stands at a place of the names.
-fn marked(i: usize) -> u8 {
-    (i % 97 + 130) as u8
-}
-
-// Puts a mark at every place of the names.
-fn mark(names: &mut [u8]) {
-    for i in 0..names.len() {
-        text::put(names, i, marked(i));
-    }
-}
-
-// Whether every place of the names from one on has its mark.
-fn kept(names: &[u8], from: usize) -> bool {
-    for i in from..names.len() {
-        if text::byte(names, i) != marked(i) {
-            return false;
+impl Sizes {
+    // The full sizes, and so many more numbers in each list.
+    pub fn full(more: u8) -> Sizes {
+        let beyond = usize::from(more);
+        Sizes {
+            ranges: 256 + beyond,
+            primitives: 1_024 + beyond,
+            lengths: 256 + beyond,
+            literals: 3_072 + beyond,
+            names: 1_024 + beyond,
         }
     }
-    true
-}
 
-// A refusal in numbers.
-pub fn refused(number: usize, line: usize) -> Outcome {
-    Outcome {
-        number,
-        line,
-        quantities: 0,
-        declared: 0,
-        primitives: 0,
-        clauses: 0,
-        literals: 0,
+    // The sizes in the next fields of a case.
+    pub fn take(fields: &mut Fields) -> Sizes {
+        Sizes {
+            ranges: fields.take(),
+            primitives: fields.take(),
+            lengths: fields.take(),
+            literals: fields.take(),
+            names: fields.take(),
+        }
     }
 }
 
-// A refusal's number.
-fn ground(refusal: Refusal) -> usize {
-    match refusal {
-        Refusal::Lists => 19,
-        Refusal::Text => 20,
-        Refusal::FirstLine => 21,
-        Refusal::Version => 22,
-        Refusal::Brackets => 23,
-        Refusal::Form => 24,
-        Refusal::Names => 25,
-        Refusal::Order => 26,
-        Refusal::Equalities => 27,
-        Refusal::Beyond => 28,
-        Refusal::Many => 29,
-        Refusal::Undeclared => 30,
-    }
-}
+// An answer in the numbers of a table: the counts of an accepted sheet, or the refusal's number and line.
+pub type Numbers = Result<[usize; 5], (usize, usize)>;
 
 // An answer in numbers.
-fn in_numbers(translated: Translated) -> Outcome {
-    match translated {
-        Translated::Accepted(counts) => Outcome {
-            number: 0,
-            line: 0,
-            quantities: counts.quantities,
-            declared: counts.declared,
-            primitives: counts.primitives,
-            clauses: counts.clauses,
-            literals: counts.literals,
-        },
-        Translated::Refused { refusal, line } => refused(ground(refusal), line),
+pub fn in_numbers(answer: Result<Counts, Refused>) -> Numbers {
+    match answer {
+        Ok(counts) => Ok([
+            counts.quantities,
+            counts.declared,
+            counts.primitives,
+            counts.clauses,
+            counts.literals,
+        ]),
+        Err(refused) => Err((usize::from(refused.refusal), refused.line)),
     }
 }
 
-// Translates a text with the fronts of the lists; 0 and line 1 where a list is too short to be lent so.
-pub fn translated(
-    sheet: &[u8],
-    sizes: Sizes,
-    ranges: &mut [i64],
-    primitives: &mut [i64],
-    lengths: &mut [i64],
-    literals: &mut [i64],
-    names: &mut [u8],
-) -> Outcome {
-    let from: usize = 0;
-    let r = sizes.ranges;
-    let p = sizes.primitives;
-    let l = sizes.lengths;
-    let t = sizes.literals;
-    let n = sizes.names;
-    if ranges.len() < r {
-        return refused(0, 1);
-    }
-    if primitives.len() < p {
-        return refused(0, 1);
-    }
-    if lengths.len() < l {
-        return refused(0, 1);
-    }
-    if literals.len() < t {
-        return refused(0, 1);
-    }
-    if names.len() < n {
-        return refused(0, 1);
-    }
-    let translated = translate::translate(
-        sheet,
-        &mut ranges[from..r],
-        &mut primitives[from..p],
-        &mut lengths[from..l],
-        &mut literals[from..t],
-        &mut names[from..n],
-    );
-    in_numbers(translated)
+// The lists of a translation.
+#[derive(Drop)]
+pub struct Lists {
+    ranges: Marked<i64>,
+    primitives: Marked<i64>,
+    lengths: Marked<i64>,
+    literals: Marked<i64>,
+    names: Marked<u8>,
 }
 
-// Puts a mark at every place of every list.
-pub fn mark_all(
-    ranges: &mut [i64],
-    primitives: &mut [i64],
-    lengths: &mut [i64],
-    literals: &mut [i64],
-    names: &mut [u8],
-) {
-    lists::mark(ranges);
-    lists::mark(primitives);
-    lists::mark(lengths);
-    lists::mark(literals);
-    mark(names);
-}
+impl Lists {
+    // Lists of which so many numbers are lent.
+    pub fn new(alloc: Global, sizes: Sizes) -> Result<Lists, AllocError> {
+        Ok(Lists {
+            ranges: Marked::new(alloc, sizes.ranges)?,
+            primitives: Marked::new(alloc, sizes.primitives)?,
+            lengths: Marked::new(alloc, sizes.lengths)?,
+            literals: Marked::new(alloc, sizes.literals)?,
+            names: Marked::new(alloc, sizes.names)?,
+        })
+    }
 
-// Whether the lists are as they came but for the fronts that an answer fills; a refusal fills none.
-pub fn lists_right(
-    outcome: Outcome,
-    ranges: &[i64],
-    primitives: &[i64],
-    lengths: &[i64],
-    literals: &[i64],
-    names: &[u8],
-) -> bool {
-    if !lists::kept(ranges, twice(outcome.quantities)) {
-        return false;
+    // Translates a sheet into the lists.
+    pub fn translate(&mut self, sheet: &[u8]) -> Result<Counts, Refused> {
+        translate::translate(
+            sheet,
+            self.ranges.lend(),
+            self.primitives.lend(),
+            self.lengths.lend(),
+            self.literals.lend(),
+            self.names.lend(),
+        )
     }
-    if !lists::kept(primitives, twice(twice(outcome.primitives))) {
-        return false;
+
+    // The problem that an answer made of the lists, if the rest of each list is as it came; a refusal makes an empty one.
+    pub fn made(&self, answer: Result<Counts, Refused>) -> Option<Problem<'_>> {
+        let counts = answer.unwrap_or(NOTHING);
+        self.names.written(counts.declared.saturating_mul(8))?;
+        Some(Problem {
+            ranges: self.ranges.written(counts.quantities.saturating_mul(2))?,
+            primitives: self
+                .primitives
+                .written(counts.primitives.saturating_mul(4))?,
+            lengths: self.lengths.written(counts.clauses)?,
+            literals: self.literals.written(counts.literals.saturating_mul(3))?,
+        })
     }
-    if !lists::kept(lengths, outcome.clauses) {
-        return false;
-    }
-    if !lists::kept(literals, thrice(outcome.literals)) {
-        return false;
-    }
-    kept(names, twice(twice(twice(outcome.declared))))
 }

@@ -8,6 +8,7 @@ use Prim.Native.Nat.{ℕ, ◌-◌, ◌≤◌}
 use native.Mathlib.Omega.{arith}
 use lib.ListN.{length}
 use lib.IntN.{ℤ}
+use Rattle.std.specs.Prelude.{Result, Ok, Err}
 use Rattle.whole.specs.Numbers.{positive_part}
 use Rattle.whole.specs.Ranges.{Point}
 use Rattle.problem.specs.Problem.{Box, quantities, Satisfies}
@@ -15,7 +16,6 @@ use Rattle.problem.specs.Lists.{primitives_of, literals_of, clauses_of, problem_
 use Rattle.problem.specs.Grounds.{judge_of}
 use Rattle.problem.specs.Leading.{bad_leading}
 use Rattle.problem.specs.declared.Refusal.{Refusal}
-use Rattle.problem.specs.declared.Judged.TheVariants.{Sound, Refused}
 use Rattle.narrow.specs.Sweep.{sweep_of}
 use Rattle.narrow.specs.Parts.{Part}
 use Rattle.search.specs.Search.{Outcome, stopped, found, none, waiting_of, lowest, search_of}
@@ -32,7 +32,7 @@ use Rattle.search.proofs.Judged.{judges, accepted}
 use Rattle.search.proofs.Instance.{start_part, Meets, sweep_lawful, sweep_sound, sweep_ordered}
 use Rattle.search.proofs.Leads.{sweep_leads}
 
-module _ (rs ps ns ls : List ℤ) (sound : judge_of rs ps ns ls ≡ Sound) (k : ℕ) where
+module _ (rs ps ns ls : List ℤ) (sound : judge_of rs ps ns ls ≡ Ok tt) (k : ℕ) where
   start : Part (quantities rs) rs rs
   start = start_part (judges rs ps ns ls sound).started
 
@@ -91,7 +91,6 @@ module _ (rs ps ns ls : List ℤ) (sound : judge_of rs ps ns ls ≡ Sound) (k : 
   right_of : (p₀ : List ℤ) (o : Outcome) → search_of (problem_of rs ps ns ls) k ≡ o → Right (problem_of rs ps ns ls) k (answered k o).answer (answered k o).sweeps (point_of o p₀)
   right_of p₀ (stopped c ws) e =
       record {
-        not_refused = refl;
         none = λ a. never (cc);
         found = λ a. never (cc);
         floor = λ a. floor_right e;
@@ -105,7 +104,6 @@ module _ (rs ps ns ls : List ℤ) (sound : judge_of rs ps ns ls ≡ Sound) (k : 
       }
   right_of p₀ (found c ws left) e =
       record {
-        not_refused = refl;
         none = λ a. never (cc);
         found = λ a. found_right e;
         floor = λ a. never (cc);
@@ -119,7 +117,6 @@ module _ (rs ps ns ls : List ℤ) (sound : judge_of rs ps ns ls ≡ Sound) (k : 
       }
   right_of p₀ (none left) e =
       record {
-        not_refused = refl;
         none = λ a. none_right e;
         found = λ a. never (cc);
         floor = λ a. never (cc);
@@ -133,7 +130,7 @@ module _ (rs ps ns ls : List ℤ) (sound : judge_of rs ps ns ls ≡ Sound) (k : 
       }
 
 -- never more than D boxes wait
-pub room : (rs ps ns ls : List ℤ) (lead : ℤ) → judge_of rs ps ns ls ≡ Sound → bad_leading rs ps lead ≡ false → (k : ℕ) → length (waiting_of (search_of (problem_of rs ps ns ls) k)) ≤ depth (positive_part lead) rs
+pub room : (rs ps ns ls : List ℤ) (lead : ℤ) → judge_of rs ps ns ls ≡ Ok tt → bad_leading rs ps lead ≡ false → (k : ℕ) → length (waiting_of (search_of (problem_of rs ps ns ls) k)) ≤ depth (positive_part lead) rs
 room rs ps ns ls lead sound g k = by (search_of (problem_of rs ps ns ls) k) (stack (sweep_leads rs ps ns ls (judges rs ps ns ls sound) lead g) (start rs ps ns ls sound k) k)
   where
     by : (o : Outcome) → Stack (quantities rs) (positive_part lead) rs (boxes_of o) → length (waiting_of o) ≤ depth (positive_part lead) rs
@@ -142,22 +139,28 @@ room rs ps ns ls lead sound g k = by (search_of (problem_of rs ps ns ls) k) (sta
     by (none left) s = omega arith
 
 -- what a solve of a problem that is not refused gives back is right for the problem
-pub sound_right : {rs ps ns ls : List ℤ} {lead budget : ℤ} {p₀ w₀ p w : List ℤ} {r : Solved} → Solves rs ps ns ls lead budget p₀ w₀ p w r → judged rs ps ns ls lead budget p₀ w₀ ≡ Sound
-    → Right (problem_of rs ps ns ls) (positive_part budget) r.answer r.sweeps p
-sound_right {rs} {ps} {ns} {ls} {lead} {budget} {p₀} {w₀} {p} {w} {r} s e =
-    rw (rw e at s.result, rw e at s.point)
-    (right_of rs ps ns ls (accepted rs ps ns ls lead budget p₀ w₀ e).judge (positive_part budget) p₀ (search_of (problem_of rs ps ns ls) (positive_part budget)) refl)
+pub sound_right : {rs ps ns ls : List ℤ} {lead budget : ℤ} {p₀ w₀ p w : List ℤ} {r : Result Solved Refusal} → Solves rs ps ns ls lead budget p₀ w₀ p w r → judged rs ps ns ls lead budget p₀ w₀ ≡ Ok tt
+    → (s : Solved) × (r ≡ Ok s) × Right (problem_of rs ps ns ls) (positive_part budget) s.answer s.sweeps p
+sound_right {rs} {ps} {ns} {ls} {lead} {budget} {p₀} {w₀} {p} {w} {r} s e = (
+  answered (positive_part budget) (search_of (problem_of rs ps ns ls) (positive_part budget)),
+  rw e at s.result,
+  rw (rw e at s.point)
+      (right_of rs ps ns ls (accepted rs ps ns ls lead budget p₀ w₀ e).judge (positive_part budget) p₀ (search_of (problem_of rs ps ns ls) (positive_part budget)) refl),
+)
 
--- a refusal gives its ground and sweep count 0, and leaves point buffer and workspace as they came
-pub refused_as : {rs ps ns ls : List ℤ} {lead budget : ℤ} {p₀ w₀ p w : List ℤ} {r : Solved} → (g : Refusal) → Solves rs ps ns ls lead budget p₀ w₀ p w r → judged rs ps ns ls lead budget p₀ w₀ ≡ Refused g
-    → (r ≡ record { answer = answer.Refused g; sweeps = 0 }) × (p ≡ p₀) × (w ≡ w₀)
+-- a refusal gives its ground, and leaves point buffer and workspace as they came
+pub refused_as : {rs ps ns ls : List ℤ} {lead budget : ℤ} {p₀ w₀ p w : List ℤ} {r : Result Solved Refusal} → (g : Refusal) → Solves rs ps ns ls lead budget p₀ w₀ p w r → judged rs ps ns ls lead budget p₀ w₀ ≡ Err g
+    → (r ≡ Err g) × (p ≡ p₀) × (w ≡ w₀)
 refused_as g s e = (rw e at s.result, rw e at s.point, rw e at s.work)
 
 -- where none is met, none leaves the point buffer as it came, and the first numbers of the workspace are 0
-module _ {rs ps ns ls : List ℤ} {lead budget : ℤ} {p₀ w₀ p w : List ℤ} {r : Solved} (s : Solves rs ps ns ls lead budget p₀ w₀ p w r) (e : judged rs ps ns ls lead budget p₀ w₀ ≡ Sound) where
-  pub none_leaves : r.answer ≡ answer.None → p ≡ p₀
-  none_leaves a = rw e at s.point ∙ by (search_of (problem_of rs ps ns ls) (positive_part budget)) (sym (ap (λ (x : Solved). x.answer) (rw e at s.result)) ∙ a)
+module _ {rs ps ns ls : List ℤ} {lead budget : ℤ} {p₀ w₀ p w : List ℤ} {r : Result Solved Refusal} (s : Solves rs ps ns ls lead budget p₀ w₀ p w r) (e : judged rs ps ns ls lead budget p₀ w₀ ≡ Ok tt) where
+  pub none_leaves : (t : Solved) → r ≡ Ok t → t.answer ≡ answer.None → p ≡ p₀
+  none_leaves t is a = rw e at s.point ∙ by (search_of (problem_of rs ps ns ls) (positive_part budget)) (ap (λ (x : Solved). x.answer) (same t (sym (rw e at s.result) ∙ is)) ∙ a)
     where
+      same : (t : Solved) → ◌≡◌ {A = Result Solved Refusal} (Ok (answered (positive_part budget) (search_of (problem_of rs ps ns ls) (positive_part budget)))) (Ok t) → answered (positive_part budget) (search_of (problem_of rs ps ns ls) (positive_part budget)) ≡ t
+      same t f = cc
+
       by : (o : Outcome) → (answered (positive_part budget) o).answer ≡ answer.None → point_of o p₀ ≡ p₀
       by (stopped c ws) a = never (cc)
       by (found c ws left) a = never (cc)

@@ -1,27 +1,27 @@
 -- The lowest-numbered quantity with more than one value, and the low ends as a list: both go through the box once, quantity by quantity.
 use mathlib.Core.Path.{◌≡◌, refl, sym, ap, ◌∙◌, fun_ext}
-use mathlib.Core.List.{[], ◌∷◌}
+use mathlib.Core.List.{List, [], ◌∷◌, ◌++◌, append-nil}
 use mathlib.Core.Bool.{Bool, true, false}
 use Prim.Native.Nat.{ℕ, zero, suc, ◌+◌, ◌-◌, ◌*◌, ◌≤◌, ◌<◌}
 use native.Mathlib.Omega.{arith}
 use native.Mathlib.Decide.{ℕ_discrete, dec_lt}
 use native.Mathlib.Numerals.{add-one}
-use lib.ListN.{length}
-use lib.IntN.{ℤ}
+use lib.ListN.{length, take, set, drop_of_length-le}
+use lib.Seq.{paste, paste-suc, take_all}
+use lib.IntN.{ℤ, pos}
 use lib.Signed.{◌≤ℤ◌, ◌<ℤ◌, lt_z}
+use Rattle.std.specs.Prelude.{Option, Some, None}
 use Rattle.whole.proofs.Kit.{ints}
 use Rattle.problem.specs.Problem.{Box, low_at, high_at}
 use Rattle.narrow.specs.Parts.{Part}
 use Rattle.search.specs.Search.{open_from, lowest}
 use Rattle.search.specs.Solve.{lows}
 use Rattle.search.specs.Demand2.{point_at}
-use Rattle.search.specs.declared.Open.{Open}
-use Rattle.search.specs.declared.Open.TheVariants.{At, Closed}
 
 -- what a choice among k quantities from r on says
-abbrev Chosen : Box → ℕ → ℕ → Open → Type 0
-Chosen b k r (At q) = (q < r + k) × (low_at b q <ℤ high_at b q) × ((s : ℕ) → r ≤ s → s < q → high_at b s ≤ℤ low_at b s)
-Chosen b k r Closed = (s : ℕ) → r ≤ s → s < r + k → high_at b s ≤ℤ low_at b s
+abbrev Chosen : Box → ℕ → ℕ → Option ℕ → Type 0
+Chosen b k r (Some q) = (q < r + k) × (low_at b q <ℤ high_at b q) × ((s : ℕ) → r ≤ s → s < q → high_at b s ≤ℤ low_at b s)
+Chosen b k r None = (s : ℕ) → r ≤ s → s < r + k → high_at b s ≤ℤ low_at b s
 
 chosen : (b : Box) (k r : ℕ) → Chosen b k r (open_from b k r)
 unfolding open_from
@@ -36,64 +36,56 @@ chosen b (suc k) r = by (lt_z (low_at b r) (high_at b r)) refl (open_from b k (s
         pick (yes e) = rw e one
         pick (no e) = on s (omega arith) g
 
-    by : (t : Bool) → lt_z (low_at b r) (high_at b r) ≡ t → (x : Open) → Chosen b k (suc r) x → Chosen b (suc k) r (elim t [ true ↦ At r | false ↦ x ])
+    by : (t : Bool) → lt_z (low_at b r) (high_at b r) ≡ t → (x : Option ℕ) → Chosen b k (suc r) x → Chosen b (suc k) r (elim t [ true ↦ Some r | false ↦ x ])
     by true e x on = (omega arith, omega ints, λ s h g. absurd (omega arith))
-    by false e (At q) on = (omega arith, on.1, also (omega ints) q on.2)
-    by false e Closed on = also (omega ints) (r + suc k) (λ s h g. on s h (omega arith))
+    by false e (Some q) on = (omega arith, on.1, also (omega ints) q on.2)
+    by false e None on = also (omega ints) (r + suc k) (λ s h g. on s h (omega arith))
+
+lowest_below : (n : ℕ) (b : Box) (q : ℕ) → lowest n b ≡ Some q → q < n
+lowest_below n b q e = let h = rw e at (chosen b n 0) in omega (arith, h.0)
 
 -- ---- the laws of the choice, whatever the sweep
 module _ {n : ℕ} {b : Box} (f : Part n b b) where
-  pub lowest_leads : (q : ℕ) → lowest n b ≡ At q → q < n
-  lowest_leads q e = let h = rw e at (chosen b n 0) in omega (arith, h.0)
+  pub lowest_leads : (q : ℕ) → lowest n b ≡ Some q → q < n
+  lowest_leads = lowest_below n b
 
-  pub lowest_wide : (q : ℕ) → lowest n b ≡ At q → low_at b q <ℤ high_at b q
+  pub lowest_wide : (q : ℕ) → lowest n b ≡ Some q → low_at b q <ℤ high_at b q
   lowest_wide q e = let h = rw e at (chosen b n 0) in h.1
 
-  pub lowest_first : (q : ℕ) → lowest n b ≡ At q → (r : ℕ) → r < q → low_at b r ≡ high_at b r
+  pub lowest_first : (q : ℕ) → lowest n b ≡ Some q → (r : ℕ) → r < q → low_at b r ≡ high_at b r
   lowest_first q e r g = let h = rw e at (chosen b n 0) in omega (ints, h.2 r (omega arith) g, f.filled r (omega (arith, h.0)))
 
-  pub lowest_closed : lowest n b ≡ Closed → (q : ℕ) → q < n → low_at b q ≡ high_at b q
+  pub lowest_closed : lowest n b ≡ None → (q : ℕ) → q < n → low_at b q ≡ high_at b q
   lowest_closed e q g = let h = rw e at (chosen b n 0) in omega (ints, h q (omega arith) (omega arith), f.filled q g)
 
--- the choice among all n, where it is one of the first m, is the choice among these
-pub lowest_same : (m n : ℕ) (b : Box) → m ≤ n → ((q : ℕ) → lowest n b ≡ At q → q < m) → lowest m b ≡ lowest n b
-lowest_same m n b le f = by (lowest m b) (chosen b m 0) (lowest n b) refl (chosen b n 0)
+-- choices among the first m and among all n, this one of the first m, are the same
+same_choice : (m n : ℕ) (b : Box) → m ≤ n → (x : Option ℕ) → Chosen b m 0 x → (y : Option ℕ) → Chosen b n 0 y → ((q : ℕ) → y ≡ Some q → q < m) → x ≡ y
+same_choice m n b le (Some q) h (Some r) k f = pick (dec_lt q r) (dec_lt r q)
   where
-    by : (x : Open) → Chosen b m 0 x → (y : Open) → lowest n b ≡ y → Chosen b n 0 y → x ≡ y
-    by (At q) h (At r) e k = pick (dec_lt q r) (dec_lt r q)
-      where
-        pick : Dec (q < r) → Dec (r < q) → At q ≡ At r
-        pick (yes l) d = absurd (omega (ints, h.1, k.2 q (omega arith) l))
-        pick (no l) (yes g) = absurd (omega (ints, k.1, h.2 r (omega arith) g))
-        pick (no l) (no g) = ap At (omega arith)
-    by (At q) h Closed e k = absurd (omega (ints, h.1, k q (omega arith) (omega (arith, h.0))))
-    by Closed h (At r) e k = absurd (omega (ints, k.1, h r (omega arith) (omega (arith, f r e))))
-    by Closed h Closed e k = refl
+    pick : Dec (q < r) → Dec (r < q) → Some q ≡ Some r
+    pick (yes l) d = absurd (omega (ints, h.1, k.2 q (omega arith) l))
+    pick (no l) (yes g) = absurd (omega (ints, k.1, h.2 r (omega arith) g))
+    pick (no l) (no g) = ap Some (omega arith)
+same_choice m n b le (Some q) h None k f = absurd (omega (ints, h.1, k q (omega arith) (omega (arith, h.0))))
+same_choice m n b le None h (Some r) k f = absurd (omega (ints, k.1, h r (omega arith) (omega (arith, f r refl))))
+same_choice m n b le None h None k f = refl
 
--- ---- the loop that looks for it
-open_here : (b : Box) (k q : ℕ) → lt_z (low_at b q) (high_at b q) ≡ true → open_from b (suc k) q ≡ At q
-unfolding open_from
-open_here b k q e = rw (e, open_from)
+pub lowest_same : (m n : ℕ) (b : Box) → m ≤ n → ((q : ℕ) → lowest n b ≡ Some q → q < m) → lowest m b ≡ lowest n b
+lowest_same m n b le = same_choice m n b le (lowest m b) (chosen b m 0) (lowest n b) (chosen b n 0)
 
-open_on : (b : Box) (k q : ℕ) → lt_z (low_at b q) (high_at b q) ≡ false → open_from b (suc k) q ≡ open_from b k (suc q)
-unfolding open_from
-open_on b k q e = rw (e, open_from)
+-- ---- the loop that looks for it among the first n: each quantity before q has one value
+pub lowest_some : (n : ℕ) (b : Box) (q : ℕ) → q < n → low_at b q <ℤ high_at b q → ((r : ℕ) → r < q → high_at b r ≤ℤ low_at b r) → Some q ≡ lowest n b
+lowest_some n b q h wide one = same_choice n n b (omega arith) (Some q) (omega arith, wide, λ r l g. one r g) (lowest n b) (chosen b n 0) (lowest_below n b)
 
-module _ (b : Box) (n q : ℕ) (far : open_from b (n - q) q ≡ lowest n b) where
-  pub open_found : (x y : ℤ) → x ≡ low_at b q → y ≡ high_at b q → q < n → lt_z x y ≡ true → At q ≡ lowest n b
-  open_found x y ex ey h t =
-      let e : n - q ≡ suc (n - suc q) = omega arith in
-      sym (open_here b (n - suc q) q (rw (← ex, ← ey) t)) ∙ ap (λ (k : ℕ). open_from b k q) (sym e) ∙ far
+pub lowest_none : (n : ℕ) (b : Box) (q : ℕ) → n ≤ q → ((r : ℕ) → r < q → high_at b r ≤ℤ low_at b r) → None ≡ lowest n b
+lowest_none n b q h one = same_choice n n b (omega arith) None (λ r l g. one r (omega arith)) (lowest n b) (chosen b n 0) (lowest_below n b)
 
-  pub open_turn : (x y : ℤ) → x ≡ low_at b q → y ≡ high_at b q → q < n → lt_z x y ≡ false → open_from b (n - (q + 1)) (q + 1) ≡ lowest n b
-  open_turn x y ex ey h t =
-      let e : n - q ≡ suc (n - suc q) = omega arith in
-      ap (λ (k : ℕ). open_from b (n - k) k) (add-one q)
-      ∙ sym (open_on b (n - suc q) q (rw (← ex, ← ey) t)) ∙ ap (λ (k : ℕ). open_from b k q) (sym e) ∙ far
-
-  pub open_none : n ≤ q → Closed ≡ lowest n b
-  unfolding open_from
-  open_none h = let e : n - q ≡ 0 = omega arith in ap (λ (k : ℕ). open_from b k q) (sym e) ∙ far
+pub one_more : (b : Box) (q : ℕ) → ((r : ℕ) → r < q → high_at b r ≤ℤ low_at b r) → high_at b q ≤ℤ low_at b q → (r : ℕ) → r < q + 1 → high_at b r ≤ℤ low_at b r
+one_more b q one here r h = pick (ℕ_discrete r q)
+  where
+    pick : Dec (r ≡ q) → high_at b r ≤ℤ low_at b r
+    pick (yes e) = rw e here
+    pick (no e) = one r (omega arith)
 
 -- ---- the low ends as a list
 pub lows_at : (b : Box) (n : ℕ) → length b ≡ 2 * n → (q : ℕ) → point_at (lows b) q ≡ low_at b q
@@ -111,3 +103,16 @@ unfolding lows
 lows_length [] n e = omega arith
 lows_length (l ∷ []) n e = absurd (omega arith)
 lows_length (l ∷ (x ∷ b)) n e = omega (arith, lows_length b (n - 1) (omega arith))
+
+-- ---- the loop that writes them over d: after q turns the first q numbers are low ends
+pub lows_turn : (b : Box) (d l : List ℤ) (q : ℕ) (v : ℤ) → length b ≡ 2 * length d → l ≡ paste d 0 (lows b) q → q < length d → v ≡ low_at b q → set l q v ≡ paste d 0 (lows b) (q + 1)
+lows_turn b d l q v long e h f =
+    let n : length (lows b) ≡ length d = lows_length b (length d) long in
+    let z : q ≡ 0 + q = omega arith in
+    rw (e, f ∙ sym (lows_at b (length d) long q), add-one q)
+    (ap (λ (k : ℕ). set (paste d 0 (lows b) q) k (point_at (lows b) q)) z ∙ paste-suc d 0 (lows b) q (pos 0) (omega arith) (omega arith))
+
+pub lows_done : (b : Box) (d l : List ℤ) (q : ℕ) → length b ≡ 2 * length d → l ≡ paste d 0 (lows b) q → length d ≤ q → l ≡ lows b
+lows_done b d l q long e k =
+    let n : length (lows b) ≡ length d = lows_length b (length d) long in
+    e ∙ ap (λ (r : List ℤ). take q (lows b) ++ r) (drop_of_length-le d {i = 0 + q} (omega arith)) ∙ append-nil (take q (lows b)) ∙ take_all q (lows b) (omega arith)

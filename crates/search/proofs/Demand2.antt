@@ -6,6 +6,7 @@ use mathlib.Core.List.{List, [], ◌∷◌}
 use Prim.Native.Nat.{ℕ, ◌+◌, ◌≤◌}
 use native.Mathlib.Omega.{arith}
 use lib.ListN.{length}
+use Rattle.std.specs.Prelude.{Option, Some}
 use Rattle.whole.specs.Ranges.{Point}
 use Rattle.problem.specs.Problem.{Box, low_at, Inside}
 use Rattle.problem.specs.Order.{Before}
@@ -14,8 +15,6 @@ use Rattle.narrow.specs.Parts.{Part}
 use Rattle.search.specs.Search.{lower_part, upper_part, Outcome, stopped, found, none, run}
 use Rattle.search.specs.Depth.{depth}
 use Rattle.search.specs.inner.Laws.{Lawful, Lossless, Ordered}
-use Rattle.search.specs.declared.Open.{Open}
-use Rattle.search.specs.declared.Open.TheVariants.{At}
 use Rattle.search.proofs.Splits.{Splits, part_self, part_trans, in_part, lows_in, lower_part_lem, upper_part_lem, halves_all, halves_order}
 use Rattle.search.proofs.Order.{before_asym, above}
 use Rattle.search.proofs.Deep.{depth_le, lower_deep, upper_deep}
@@ -57,11 +56,11 @@ floor : {n : ℕ} {a c : Box} (ws : List Box) → Part n a c → InOrder n (c �
 floor {c = c} ws f o p h x = ⊎_elim (λ i. above (λ q k. (i.each q k).above) x) (λ k. before_asym x (o.0 (low_at c) p (lows_in f) k)) h
 
 -- ---- under the first laws the boxes stay parts of the starting box, and there is room
-module _ {sweep : Box → Swept} {choose : Box → Open} {n lead : ℕ} {start : Box} (law : Lawful sweep choose n lead start) where
+module _ {sweep : Box → Swept} {choose : Box → Option ℕ} {n lead : ℕ} {start : Box} (law : Lawful sweep choose n lead start) where
   pub cuts : {c b : Box} → Part n start c → sweep c ≡ changed b → Part n c b
   cuts {c} f e = rw e at (law.shrinks c f)
 
-  pub splits : {c c' : Box} (q : ℕ) → Part n start c → sweep c ≡ unchanged c' → choose c ≡ At q → Splits n c q
+  pub splits : {c c' : Box} (q : ℕ) → Part n start c → sweep c ≡ unchanged c' → choose c ≡ Some q → Splits n c q
   splits {c} {c'} q f e g = record { self = part_self f; less = omega (arith, law.leads c c' q f e g, law.leading); wide = law.wide c c' q f e g }
 
   pub stack_kept : Kept sweep choose (Stack n lead start)
@@ -82,7 +81,7 @@ module _ {sweep : Box → Swept} {choose : Box → Open} {n lead : ℕ} {start :
   module _ (J : List Box → Type 0)
       (taken : (c : Box) (ws : List Box) → Part n start c → sweep c ≡ empty → J (c ∷ ws) → J ws)
       (cut : (c b : Box) (ws : List Box) → Part n start c → sweep c ≡ changed b → J (c ∷ ws) → J (b ∷ ws))
-      (split : (c c' : Box) (q : ℕ) (ws : List Box) → Part n start c → sweep c ≡ unchanged c' → choose c ≡ At q → J (c ∷ ws) → J (lower_part c q ∷ upper_part c q ∷ ws)) where
+      (split : (c c' : Box) (q : ℕ) (ws : List Box) → Part n start c → sweep c ≡ unchanged c' → choose c ≡ Some q → J (c ∷ ws) → J (lower_part c q ∷ upper_part c q ∷ ws)) where
     on_stack : (k : ℕ) (c : Box) (ws : List Box) → Stack n lead start (c ∷ ws) → J (c ∷ ws) → J (boxes_of (run sweep choose k c ws))
     on_stack k c ws s j = (kept sweep choose (λ bs. Stack n lead start bs × J bs) both k c ws (s, j)).1
       where

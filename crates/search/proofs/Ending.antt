@@ -7,6 +7,7 @@ use Prim.Native.Nat.{ℕ, zero, suc, ◌+◌, ◌≤◌, ◌<◌}
 use native.Mathlib.Decide.{ℕ_discrete}
 use native.Mathlib.Omega.{arith}
 use lib.IntN.{pos, ◌-ℤ◌}
+use Rattle.std.specs.Prelude.{Option, Some, None}
 use Rattle.whole.specs.Numbers.{positive_part}
 use Rattle.whole.proofs.Kit.{ints, plus, minus, apart}
 use Rattle.problem.specs.Problem.{Box, low_at, high_at}
@@ -15,8 +16,6 @@ use Rattle.narrow.specs.Parts.{Part, Smaller}
 use Rattle.search.specs.Search.{middle_at, lower_part, upper_part, Outcome, stopped, run}
 use Rattle.search.specs.Demand2.{Decides}
 use Rattle.search.specs.inner.Laws.{Lawful, Ending}
-use Rattle.search.specs.declared.Open.{Open}
-use Rattle.search.specs.declared.Open.TheVariants.{At, Closed}
 use Rattle.search.proofs.Splits.{Splits, part_trans, lower_part_lem, upper_part_lem, lower_at, upper_at, halved}
 use Rattle.search.proofs.Run.{run_go, run_out, run_end, step_out, step_taken, step_cut, step_split, step_end, resume}
 use Rattle.search.proofs.Demand2.{cuts, splits}
@@ -76,13 +75,13 @@ decides : (ws : List Box) (o : Outcome) → Decides o → Reached ws o
 decides [] o d = d
 decides (w ∷ ws) o d = inl d
 
-module _ {sweep : Box → Swept} {choose : Box → Open} {n lead : ℕ} {start : Box} (law : Lawful sweep choose n lead start) (ending : Ending sweep n start) where
+module _ {sweep : Box → Swept} {choose : Box → Option ℕ} {n lead : ℕ} {start : Box} (law : Lawful sweep choose n lead start) (ending : Ending sweep n start) where
   used_up : (s : ℕ) (c : Box) → size n c < s → Part n start c → (ws : List Box) → (k : ℕ) × Reached ws (run sweep choose k c ws)
   unfolding run
   used_up zero c lt f ws = absurd (omega arith)
   used_up (suc s) c lt f ws = by ws (sweep c) refl (choose c) refl (used_up s)
     where
-      by : (ws : List Box) (x : Swept) → sweep c ≡ x → (y : Open) → choose c ≡ y
+      by : (ws : List Box) (x : Swept) → sweep c ≡ x → (y : Option ℕ) → choose c ≡ y
           → ((b : Box) → size n b < s → Part n start b → (ws : List Box) → (k : ℕ) × Reached ws (run sweep choose k b ws)) → (k : ℕ) × Reached ws (run sweep choose k c ws)
       by [] empty e y g on = (1, rw (run_out sweep choose 0 c [] (step_out sweep choose e)) tt)
       by (w ∷ ws) empty e y g on = (1, inr (run_go sweep choose 0 c (w ∷ ws) (step_taken sweep choose e)))
@@ -90,7 +89,7 @@ module _ {sweep : Box → Swept} {choose : Box → Open} {n lead : ℕ} {start :
           let p = cuts law f e in
           let r = on b (omega (arith, size_lt p (ending.smaller c b f e))) (part_trans f p) ws in
           (suc r.0, rw (run_go sweep choose r.0 c ws (step_cut sweep choose e)) r.1)
-      by ws (unchanged b) e (At q) g on =
+      by ws (unchanged b) e (Some q) g on =
           let z = splits law q f e g in
           let r = on (lower_part c q) (omega (arith, size_lt (lower_part_lem z) (lower_smaller z))) (part_trans f (lower_part_lem z)) (upper_part c q ∷ ws) in
           let t = on (upper_part c q) (omega (arith, size_lt (upper_part_lem z) (upper_smaller z))) (part_trans f (upper_part_lem z)) ws in
@@ -101,7 +100,7 @@ module _ {sweep : Box → Swept} {choose : Box → Open} {n lead : ℕ} {start :
           run_go sweep choose (r.0 + t.0) c ws (step_split sweep choose e g) ∙ resume sweep choose (lower_part c q) (upper_part c q ∷ ws) r.0 t.0 h
           in (suc (r.0 + t.0), rw w t.1))
           r.1
-      by ws (unchanged b) e Closed g on = (1, rw (run_end sweep choose 0 c ws (step_end sweep choose ws e g)) (decides ws _ tt))
+      by ws (unchanged b) e None g on = (1, rw (run_end sweep choose 0 c ws (step_end sweep choose ws e g)) (decides ws _ tt))
 
   -- some budget decides
   pub decided_run : Part n start start → (k : ℕ) × Decides (run sweep choose k start [])

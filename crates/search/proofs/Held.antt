@@ -10,14 +10,13 @@ use lib.ListN.{length, take, drop, length-append, length-set}
 use lib.Seq.{take-take, take_at}
 use lib.IntN.{ℤ}
 use borrow.Rule.Slice.PartMut.{mid_of, put_mid, same_len_mid, mid_len, drop_put, put_same}
+use Rattle.std.specs.Prelude.{Option, Some, None}
 use Rattle.problem.specs.Problem.{Box}
 use Rattle.narrow.specs.Cuts.{Swept, empty, changed, unchanged}
 use Rattle.narrow.specs.Parts.{Part}
 use Rattle.search.specs.Search.{lower_part, upper_part, Outcome, stopped, found, none, run}
 use Rattle.search.specs.Depth.{depth}
 use Rattle.search.specs.inner.Laws.{Lawful}
-use Rattle.search.specs.declared.Open.{Open}
-use Rattle.search.specs.declared.Open.TheVariants.{At, Closed}
 use Rattle.search.proofs.Splits.{Splits}
 use Rattle.search.proofs.Deep.{lower_deep}
 use Rattle.search.proofs.Demand2.{begin, splits}
@@ -25,7 +24,7 @@ use Rattle.search.proofs.Going.{Going, go_cut, go_taken, go_split, end_none, end
 use Rattle.search.proofs.Slots.{stack_of, stack_length, stack_none, stack_more, stack_put, mid_put, mid_put_first, mid_put_second, drop_far}
 
 -- slots of w numbers, with room for D + 1 of them in l₀
-pub record Frame (sweep : Box → Swept) (choose : Box → Open) (n lead w : ℕ) (start : Box) (l₀ : List ℤ) : Type 0 where
+pub record Frame (sweep : Box → Swept) (choose : Box → Option ℕ) (n lead w : ℕ) (start : Box) (l₀ : List ℤ) : Type 0 where
   pub law : Lawful sweep choose n lead start
   pub fine : Part n start start
   pub some : 1 ≤ n
@@ -33,16 +32,16 @@ pub record Frame (sweep : Box → Swept) (choose : Box → Open) (n lead w : ℕ
   pub room : suc (depth lead start) * w ≤ length l₀
 
 -- l holds the box in hand in slot s and those that wait below it, k sweeps are left, and the run gives o
-pub record Held (sweep : Box → Swept) (choose : Box → Open) (n lead w : ℕ) (start : Box) (o : Outcome) (l₀ l : List ℤ) (k s : ℕ) : Type 0 where
+pub record Held (sweep : Box → Swept) (choose : Box → Option ℕ) (n lead w : ℕ) (start : Box) (o : Outcome) (l₀ l : List ℤ) (k s : ℕ) : Type 0 where
   pub len : length l ≡ length l₀
   pub rest : drop (suc (depth lead start) * w) l ≡ drop (suc (depth lead start) * w) l₀
   pub going : Going sweep choose n lead start o k (mid_of (s * w) w l) (stack_of w s l)
 
-going_at : {sweep : Box → Swept} {choose : Box → Open} {n lead : ℕ} {start : Box} {o : Outcome} {k : ℕ} {c c' : Box} {ws ws' : List Box} → c ≡ c' → ws ≡ ws' → Going sweep choose n lead start o k c ws → Going sweep choose n lead start o k c' ws'
+going_at : {sweep : Box → Swept} {choose : Box → Option ℕ} {n lead : ℕ} {start : Box} {o : Outcome} {k : ℕ} {c c' : Box} {ws ws' : List Box} → c ≡ c' → ws ≡ ws' → Going sweep choose n lead start o k c ws → Going sweep choose n lead start o k c' ws'
 going_at {sweep} {choose} {n} {lead} {start} {o} {k} {c} {c'} {ws} {ws'} e f g =
     subst (λ (x : List Box). Going sweep choose n lead start o k c' x) f (subst (λ (x : Box). Going sweep choose n lead start o k x ws) e g)
 
-module _ {sweep : Box → Swept} {choose : Box → Open} {n lead w : ℕ} {start : Box} {l₀ : List ℤ} (f : Frame sweep choose n lead w start l₀) where
+module _ {sweep : Box → Swept} {choose : Box → Option ℕ} {n lead w : ℕ} {start : Box} {l₀ : List ℤ} (f : Frame sweep choose n lead w start l₀) where
   -- the search begins with the starting box in the first slot
   pub held_start : (k : ℕ) (r : List ℤ) → l₀ ≡ start ++ r → Held sweep choose n lead w start (run sweep choose k start []) l₀ l₀ k 0
   held_start k r e =
@@ -138,10 +137,10 @@ module _ {sweep : Box → Swept} {choose : Box → Open} {n lead w : ℕ} {start
 
     -- ---- nothing changed, so that the choice decides
     module _ {c' : Box} (sw : sweep (mid_of (s * w) (s * w + w - s * w) l) ≡ unchanged c') where
-      pub found_is : Closed ≡ choose (mid_of (s * w) (s * w + w - s * w) l) → o ≡ found (mid_of (s * w) (s * w + w - s * w) l) (stack_of w s l) j
+      pub found_is : None ≡ choose (mid_of (s * w) (s * w + w - s * w) l) → o ≡ found (mid_of (s * w) (s * w + w - s * w) l) (stack_of w s l) j
       found_is e = end_found f.law hand sw (sym e)
 
-      module _ (q : ℕ) (op : At q ≡ choose (mid_of (s * w) (s * w + w - s * w) l)) where
+      module _ (q : ℕ) (op : Some q ≡ choose (mid_of (s * w) (s * w + w - s * w) l)) where
         abbrev b : Box
         b = mid_of (s * w) (s * w + w - s * w) l
 
@@ -209,20 +208,20 @@ module _ {sweep : Box → Swept} {choose : Box → Open} {n lead w : ℕ} {start
                 going = going_at (sym lower_here) (sym upper_waits) (go_split f.law q hand sw (sym op));
               }
 
-  -- one sweep of those left
-  pub held_one : {o : Outcome} {l : List ℤ} {k s : ℕ} → (k ≡ 0 → ⊥) → Held sweep choose n lead w start o l₀ l k s → Held sweep choose n lead w start o l₀ l (suc (k - 1)) s
-  held_one {o} {l} {k} {s} ne h = let z : k ≡ suc (k - 1) = omega arith in subst (λ (m : ℕ). Held sweep choose n lead w start o l₀ l m s) z h
+-- one sweep of those left
+pub held_one : {sweep : Box → Swept} {choose : Box → Option ℕ} {n lead w : ℕ} {start : Box} {o : Outcome} {l₀ l : List ℤ} {k s : ℕ}
+    → (k ≡ 0 → ⊥) → Held sweep choose n lead w start o l₀ l k s → Held sweep choose n lead w start o l₀ l (suc (k - 1)) s
+held_one {sweep} {choose} {n} {lead} {w} {start} {o} {l₀} {l} {k} {s} ne h = let z : k ≡ suc (k - 1) = omega arith in subst (λ (m : ℕ). Held sweep choose n lead w start o l₀ l m s) z h
 
 -- a sweep changed nothing: the box is still in hand, and one of the sweeps left is for what is chosen now
-pub record Settled (sweep : Box → Swept) (choose : Box → Open) (n lead w : ℕ) (start : Box) (o : Outcome) (l₀ l : List ℤ) (k s : ℕ) : Type 0 where
+pub record Settled (sweep : Box → Swept) (choose : Box → Option ℕ) (n lead w : ℕ) (start : Box) (o : Outcome) (l₀ l : List ℤ) (k s : ℕ) : Type 0 where
   pub held : Held sweep choose n lead w start o l₀ l (suc k) s
   pub swept : sweep (mid_of (s * w) (s * w + w - s * w) l) ≡ unchanged (mid_of (s * w) (s * w + w - s * w) l)
 
-pub settled : {sweep : Box → Swept} {choose : Box → Open} {n lead w : ℕ} {start : Box} {o : Outcome} {l₀ l : List ℤ} {k s : ℕ}
-    → Frame sweep choose n lead w start l₀ → (k ≡ 0 → ⊥) → Held sweep choose n lead w start o l₀ l k s
+pub settled : {sweep : Box → Swept} {choose : Box → Option ℕ} {n lead w : ℕ} {start : Box} {o : Outcome} {l₀ l : List ℤ} {k s : ℕ}
+    → Frame sweep choose n lead w start l₀ → Held sweep choose n lead w start o l₀ l (suc k) s
     → (ys : List ℤ) → length ys ≡ length (mid_of (s * w) (s * w + w - s * w) l) → ys ≡ mid_of (s * w) (s * w + w - s * w) l → unchanged ys ≡ sweep (mid_of (s * w) (s * w + w - s * w) l)
-    → Settled sweep choose n lead w start o l₀ (put_mid (s * w) (s * w + w - s * w) l ys) (k - 1) s
-settled {sweep} f ne h ys kept was told =
-    let one = held_one f ne h in
-    let here = same_here f one ys kept was in
-    record { held = held_same f one ys kept was; swept = ap sweep here ∙ sym told ∙ ap unchanged (was ∙ sym here) }
+    → Settled sweep choose n lead w start o l₀ (put_mid (s * w) (s * w + w - s * w) l ys) k s
+settled {sweep} f h ys kept was told =
+    let here = same_here f h ys kept was in
+    record { held = held_same f h ys kept was; swept = ap sweep here ∙ sym told ∙ ap unchanged (was ∙ sym here) }

@@ -2,15 +2,16 @@
 use mathlib.Core.Path.{◌≡◌, refl, sym, ap, ◌∙◌}
 use mathlib.Core.Bool.{Bool, true, false, not, cond}
 use mathlib.Core.List.{List}
-use Prim.Native.Nat.{ℕ, ◌≤◌, ◌<◌}
+use Prim.Native.Nat.{ℕ}
 use native.Mathlib.Omega.{arith}
-use borrow.Author.Tests.{ltb-false, eqb-true, not-false, eq-eqb, ne_eqb, lt-ltb, le-ltb}
+use borrow.Author.Tests.{ltb-false, eqb-true, not-false}
 use lib.Dec.{T, eqb, ltb}
 use lib.ListN.{length}
 use lib.IntN.{ℤ, pos, nat_abs}
-use lib.Signed.{lt_z, non_neg, ◌≤ℤ◌}
+use lib.Signed.{non_neg, ◌≤ℤ◌}
 use mir.Syntax.{w64}
 use mir.Val.{Fits, SFits}
+use Rattle.std.specs.Prelude.{Ok, Err}
 use Rattle.whole.specs.Numbers.{positive_part}
 use Rattle.whole.proofs.Kit.{ints, at, rd, index, nat_abs_is, apart}
 use Rattle.problem.specs.Problem.{quantities}
@@ -22,28 +23,25 @@ use Rattle.problem.proofs.Defined.{leading_sign, leading_most}
 use Rattle.problem.proofs.Tests.{or_first, or_second}
 use Rattle.problem.specs.inner.Placed.{Placed, Leadable}
 use Rattle.problem.specs.declared.Refusal.{Refusal}
-use Rattle.problem.specs.declared.Refusal.TheVariants.{Budget, Room, Leading}
-use Rattle.problem.specs.declared.Judged.{Judged}
-use Rattle.problem.specs.declared.Judged.TheVariants.{Sound, Refused}
 use Rattle.search.specs.Depth.{room_of}
-use Rattle.search.specs.Solve.{bad_budget, bad_room, or_else, judged}
+use Rattle.search.specs.Solve.{Judged, bad_budget, bad_room, or_else, judged}
 use Rattle.search.specs.inner.Ready.{Started, Led, Ready}
 
 -- a ground that was not met
-passed : (t : Bool) (g : Refusal) (j : Judged) → cond t (Refused g) j ≡ Sound → (t ≡ false) × (j ≡ Sound)
+passed : (t : Bool) (g : Refusal) (j : Judged) → cond t (Err g) j ≡ Ok tt → (t ≡ false) × (j ≡ Ok tt)
 passed true g j e = absurd (let z : ◌≡◌ {A = ℕ} 0 1 = cc in omega arith)
 passed false g j e = (refl, e)
 
-both_passed : (j k : Judged) → or_else j k ≡ Sound → (j ≡ Sound) × (k ≡ Sound)
-both_passed Sound k e = (refl, e)
-both_passed (Refused g) k e = absurd (let z : ◌≡◌ {A = ℕ} 0 1 = cc in omega arith)
+both_passed : (j k : Judged) → or_else j k ≡ Ok tt → (j ≡ Ok tt) × (k ≡ Ok tt)
+both_passed (Ok u) k e = (refl, e)
+both_passed (Err g) k e = absurd (let z : ◌≡◌ {A = ℕ} 0 1 = cc in omega arith)
 
 -- ---- grounds 1 to 5
 pub record Judges (rs ps ns ls : List ℤ) : Type 0 where
   pub started : Started rs
   pub placed : Placed (quantities rs) ps ns ls
 
-pub judges : (rs ps ns ls : List ℤ) → judge_of rs ps ns ls ≡ Sound → Judges rs ps ns ls
+pub judges : (rs ps ns ls : List ℤ) → judge_of rs ps ns ls ≡ Ok tt → Judges rs ps ns ls
 judges rs ps ns ls e =
     let u = sound_unmet rs ps ns ls e in
     let n = counted rs u.counted in
@@ -79,18 +77,15 @@ module _ {rs ps : List ℤ} {lead : ℤ} (g : Leads rs ps lead) where
   pub leading_led : Started rs → Led rs (nat_abs (at lead))
   leading_led s = record { started = s; leading = omega (arith, leading_count, leading_most rs ps lead g.good) }
 
-  pub leading_room : {m : ℕ} → m ≡ room_of (nat_abs (at lead)) rs → m ≡ room_of (positive_part lead) rs
-  leading_room e = e ∙ ap (λ (k : ℕ). room_of k rs) leading_count
-
 -- ---- all eight
 module _ (rs ps ns ls : List ℤ) (lead budget : ℤ) (point work : List ℤ) where
   pub record Accepted : Type 0 where
-    pub judge : judge_of rs ps ns ls ≡ Sound
+    pub judge : judge_of rs ps ns ls ≡ Ok tt
     pub count : bad_budget budget ≡ false
     pub leads : bad_leading rs ps lead ≡ false
     pub room : bad_room lead rs point work ≡ false
 
-  pub accepted : judged rs ps ns ls lead budget point work ≡ Sound → Accepted
+  pub accepted : judged rs ps ns ls lead budget point work ≡ Ok tt → Accepted
   unfolding judged
   accepted e =
       let a = both_passed (judge_of rs ps ns ls) _ e in
@@ -102,7 +97,7 @@ module _ (rs ps ns ls : List ℤ) (lead budget : ℤ) (point work : List ℤ) wh
   leading_is : bad_leading rs ps lead ≡ false → pos (positive_part lead) ≡ lead
   leading_is e = let h = leading_sign rs ps lead e in omega (ints, apart lead)
 
-  pub ready : judged rs ps ns ls lead budget point work ≡ Sound → Ready rs ps ns ls (positive_part lead) point work
+  pub ready : judged rs ps ns ls lead budget point work ≡ Ok tt → Ready rs ps ns ls (positive_part lead) point work
   ready e =
       let a = accepted e in
       let j = judges rs ps ns ls a.judge in
@@ -115,39 +110,3 @@ module _ (rs ps ns ls : List ℤ) (lead budget : ℤ) (point work : List ℤ) wh
         point = eqb-true (length point) (quantities rs) (not-false (eqb (length point) (quantities rs)) same);
         room = ltb-false (length work) (room_of (positive_part lead) rs) enough;
       }
-
-  -- ---- and what each test of the code shows
-  pub first_met : (g : Refusal) → judge_of rs ps ns ls ≡ Refused g → Refused g ≡ judged rs ps ns ls lead budget point work
-  unfolding judged
-  first_met g e = rw e
-
-  module _ (e : judge_of rs ps ns ls ≡ Sound) where
-    pub budget_met : bad_budget budget ≡ true → Refused Budget ≡ judged rs ps ns ls lead budget point work
-    unfolding judged
-    budget_met f = rw (e, f)
-
-    module _ (f : bad_budget budget ≡ false) where
-      pub leading_met : bad_leading rs ps lead ≡ true → Refused Leading ≡ judged rs ps ns ls lead budget point work
-      unfolding judged
-      leading_met g = rw (e, f, g)
-
-      module _ (g : bad_leading rs ps lead ≡ false) where
-        pub point_met : (length point ≡ quantities rs → ⊥) → Refused Room ≡ judged rs ps ns ls lead budget point work
-        unfolding judged
-        point_met h = rw (e, f, g, ne_eqb (length point) (quantities rs) h)
-
-        module _ (h : length point ≡ quantities rs) where
-          pub work_met : length work < room_of (positive_part lead) rs → Refused Room ≡ judged rs ps ns ls lead budget point work
-          unfolding judged
-          work_met k = rw (e, f, g, eq-eqb (length point) (quantities rs) h, lt-ltb (length work) (room_of (positive_part lead) rs) k)
-
-          pub none_met : room_of (positive_part lead) rs ≤ length work → Sound ≡ judged rs ps ns ls lead budget point work
-          unfolding judged
-          none_met k = rw (e, f, g, eq-eqb (length point) (quantities rs) h, le-ltb (length work) (room_of (positive_part lead) rs) k)
-
--- the budget as it was read
-pub under_zero : (budget b : ℤ) → b ≡ budget → lt_z b (pos 0) ≡ true → bad_budget budget ≡ true
-under_zero budget b e t = let u = rw e at t in rw u
-
-pub over_most : (budget b : ℤ) → b ≡ budget → lt_z b (pos 0) ≡ false → (t : Bool) → lt_z (pos 1_000_000_000) b ≡ t → bad_budget budget ≡ t
-over_most budget b e f t g = let u = rw e at f in let v = rw e at g in rw (u, v)

@@ -14,8 +14,6 @@ pub mod Longer
 pub mod Ending
 pub mod Promises
 pub mod PointLength
-pub mod Copies
-pub mod TwoSlots
 pub mod Slots
 pub mod Held
 pub mod Searching

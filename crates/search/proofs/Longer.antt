@@ -7,19 +7,20 @@ use Prim.Native.Nat.{ℕ, ◌+◌, ◌-◌, ◌≤◌}
 use native.Mathlib.Omega.{arith}
 use lib.IntN.{ℤ}
 use lib.Signed.{◌≤ℤ◌}
+use Rattle.std.specs.Prelude.{Option, Result, Ok}
 use Rattle.whole.specs.Numbers.{positive_part}
 use Rattle.whole.specs.Ranges.{Point}
 use Rattle.whole.proofs.Kit.{ints, apart}
 use Rattle.problem.specs.Problem.{Box, low_at, quantities}
-use Rattle.problem.specs.declared.Judged.TheVariants.{Sound}
+use Rattle.problem.specs.Lists.{problem_of}
+use Rattle.problem.specs.declared.Refusal.{Refusal}
 use Rattle.narrow.specs.Cuts.{Swept}
 use Rattle.narrow.specs.Parts.{Part}
-use Rattle.search.specs.Search.{Outcome, stopped, found, none, run}
+use Rattle.search.specs.Search.{Outcome, stopped, found, none, run, search_of}
 use Rattle.search.specs.Solve.{judged, lows, answered, point_of, Solves}
 use Rattle.search.specs.Demand2.{point_at}
 use Rattle.search.specs.Longer.{Longer}
 use Rattle.search.specs.inner.Laws.{Lawful, Lossless, Ordered}
-use Rattle.search.specs.declared.Open.{Open}
 use Rattle.search.specs.declared.Solved.{Solved}
 use Rattle.search.proofs.Choice.{lows_point}
 use Rattle.search.proofs.Run.{never, steady_answer, steady_point}
@@ -27,7 +28,7 @@ use Rattle.search.proofs.Demand2.{stack, later, found_later}
 use Rattle.search.proofs.Judged.{judges, accepted}
 use Rattle.search.proofs.Instance.{start_part, sweep_lawful, sweep_sound, sweep_ordered}
 
-module _ {sweep : Box → Swept} {choose : Box → Open} {n lead : ℕ} {start : Box} (law : Lawful sweep choose n lead start) (fine : Part n start start) {Sat : Point → Type 0} (order : Ordered sweep choose n start Sat) (sound : Lossless sweep n start Sat) (k l : ℕ) (more : k ≤ l) where
+module _ {sweep : Box → Swept} {choose : Box → Option ℕ} {n lead : ℕ} {start : Box} (law : Lawful sweep choose n lead start) (fine : Part n start start) {Sat : Point → Type 0} (order : Ordered sweep choose n start Sat) (sound : Lossless sweep n start Sat) (k l : ℕ) (more : k ≤ l) where
   -- the low ends of a box where a budget ends, as a point
   stopped_at : (j : ℕ) {c : Box} {ws : List Box} → run sweep choose j start [] ≡ stopped c ws → point_at (lows c) ≡ low_at c
   stopped_at j {c} e = lows_point c n (rw e at (stack law fine j)).0.long
@@ -80,12 +81,17 @@ module _ {sweep : Box → Swept} {choose : Box → Open} {n lead : ℕ} {start :
   longer_run p₀ p₀' = by p₀ p₀' (run sweep choose k start []) (run sweep choose l start []) refl refl
 
 -- for two solves of a problem that neither refuses
-pub sound_longer : {rs ps ns ls : List ℤ} {lead budget budget' : ℤ} {p₀ w₀ p w p₀' w₀' p' w' : List ℤ} {r r' : Solved}
+pub sound_longer : {rs ps ns ls : List ℤ} {lead budget budget' : ℤ} {p₀ w₀ p w p₀' w₀' p' w' : List ℤ} {r r' : Result Solved Refusal}
     → Solves rs ps ns ls lead budget p₀ w₀ p w r → Solves rs ps ns ls lead budget' p₀' w₀' p' w' r'
-    → judged rs ps ns ls lead budget p₀ w₀ ≡ Sound → judged rs ps ns ls lead budget' p₀' w₀' ≡ Sound
-    → budget ≤ℤ budget' → Longer (quantities rs) r r' p p'
+    → judged rs ps ns ls lead budget p₀ w₀ ≡ Ok tt → judged rs ps ns ls lead budget' p₀' w₀' ≡ Ok tt
+    → budget ≤ℤ budget' → (a a' : Solved) × (r ≡ Ok a) × (r' ≡ Ok a') × Longer (quantities rs) a a' p p'
 sound_longer {rs} {ps} {ns} {ls} {lead} {budget} {budget'} {p₀} {w₀} {p} {w} {p₀'} {w₀'} {p'} {w'} {r} {r'} s t e e' more =
-    let j = judges rs ps ns ls (accepted rs ps ns ls lead budget p₀ w₀ e).judge in
-    rw (rw e at s.result, rw e at s.point, rw e' at t.result, rw e' at t.point)
-    (longer_run (sweep_lawful rs ps ns ls j) (start_part j.started) (sweep_ordered rs ps ns ls j) (sweep_sound rs ps ns ls j)
-    (positive_part budget) (positive_part budget') (omega (ints, apart budget, apart budget')) p₀ p₀')
+    let j = judges rs ps ns ls (accepted rs ps ns ls lead budget p₀ w₀ e).judge in (
+      answered (positive_part budget) (search_of (problem_of rs ps ns ls) (positive_part budget)),
+      answered (positive_part budget') (search_of (problem_of rs ps ns ls) (positive_part budget')),
+      rw e at s.result,
+      rw e' at t.result,
+      rw (rw e at s.point, rw e' at t.point)
+          (longer_run (sweep_lawful rs ps ns ls j) (start_part j.started) (sweep_ordered rs ps ns ls j) (sweep_sound rs ps ns ls j)
+          (positive_part budget) (positive_part budget') (omega (ints, apart budget, apart budget')) p₀ p₀'),
+    )

@@ -4,10 +4,10 @@ use mathlib.Core.List.{List}
 use Prim.Native.Nat.{ℕ}
 use lib.IntN.{ℤ}
 use lib.ListN.{length}
+use Rattle.std.specs.Prelude.{Ok}
 use Rattle.problem.specs.Problem.{quantities}
 use Rattle.problem.specs.Lists.{problem_of}
 use Rattle.problem.specs.Grounds.{judge_of}
-use Rattle.problem.specs.declared.Judged.TheVariants.{Sound}
 use Rattle.search.specs.Search.{Outcome, stopped, found, none, search_of}
 use Rattle.search.specs.Solve.{point_of}
 use Rattle.search.proofs.Choice.{lows_length}
@@ -16,7 +16,7 @@ use Rattle.search.proofs.Demand2.{Stack, stack}
 use Rattle.search.proofs.Judged.{judges}
 use Rattle.search.proofs.Instance.{start_part, sweep_lawful}
 
-pub point_long : (rs ps ns ls : List ℤ) → judge_of rs ps ns ls ≡ Sound → (k : ℕ) (p : List ℤ) → length p ≡ quantities rs
+pub point_long : (rs ps ns ls : List ℤ) → judge_of rs ps ns ls ≡ Ok tt → (k : ℕ) (p : List ℤ) → length p ≡ quantities rs
     → length (point_of (search_of (problem_of rs ps ns ls) k) p) ≡ quantities rs
 point_long rs ps ns ls sound k p e =
     let j = judges rs ps ns ls sound in

@@ -4,9 +4,10 @@ use mathlib.Core.List.{List}
 use Prim.Native.Nat.{ℕ, ◌<◌}
 use native.Mathlib.Omega.{arith}
 use lib.IntN.{ℤ}
+use Rattle.std.specs.Prelude.{Result}
 use Rattle.problem.specs.Grounds.{refusal_number, FirstOf}
-use Rattle.problem.specs.declared.Judged.{Judged}
-use Rattle.search.specs.Solve.{judged, solve_order, SolveGround, Solves, number_of}
+use Rattle.problem.specs.declared.Refusal.{Refusal}
+use Rattle.search.specs.Solve.{Judged, judged, solve_order, SolveGround, Solves, number_of, sweeps_of}
 use Rattle.search.specs.Promises.{SolveRefused, RefusedBack, SolveRight, SolveBuffers, SolveLonger, SolveOnce, Decided, Room, LeadingOnly, LeadingSingle, LeadingSame, SmallestOnce}
 use Rattle.search.specs.declared.Solved.{Solved}
 use Rattle.search.proofs.Order as order
@@ -19,14 +20,14 @@ use Rattle.search.proofs.Instance.{start_part, sweep_lawful, sweep_ending}
 use Rattle.search.proofs.Leads.{only_leading, all_single, search_same}
 use Rattle.search.proofs.Ending.{decided_run}
 
-module _ (rs ps ns ls : List ℤ) (lead budget : ℤ) (p₀ w₀ p w : List ℤ) (r : Solved) (s : Solves rs ps ns ls lead budget p₀ w₀ p w r) where
-  refused_by : (j : Judged) → judged rs ps ns ls lead budget p₀ w₀ ≡ j → Judgement rs ps ns ls lead budget p₀ w₀ j → (g : ℕ) → number_of r.answer ≡ g → 0 < g
-      → FirstOf solve_order (SolveGround rs ps ns ls lead budget p₀ w₀) g × (r.sweeps ≡ 0) × (p ≡ p₀) × (w ≡ w₀)
+module _ (rs ps ns ls : List ℤ) (lead budget : ℤ) (p₀ w₀ p w : List ℤ) (r : Result Solved Refusal) (s : Solves rs ps ns ls lead budget p₀ w₀ p w r) where
+  refused_by : (j : Judged) → judged rs ps ns ls lead budget p₀ w₀ ≡ j → Judgement rs ps ns ls lead budget p₀ w₀ j → (g : ℕ) → number_of r ≡ g → 0 < g
+      → FirstOf solve_order (SolveGround rs ps ns ls lead budget p₀ w₀) g × (sweeps_of r ≡ 0) × (p ≡ p₀) × (w ≡ w₀)
   refused_by j e (refused {g = k} f) g n lt =
       let h = refused_as k s e in
-      let i : refusal_number k ≡ g = sym (ap (λ (x : Solved). number_of x.answer) h.0) ∙ n in
-      (subst (FirstOf solve_order (SolveGround rs ps ns ls lead budget p₀ w₀)) i f, ap (λ (x : Solved). x.sweeps) h.0, h.1, h.2)
-  refused_by j e (sound m) g n lt = absurd (omega (arith, (sound_right s e).not_refused))
+      let i : refusal_number k ≡ g = sym (ap number_of h.0) ∙ n in
+      (subst (FirstOf solve_order (SolveGround rs ps ns ls lead budget p₀ w₀)) i f, ap sweeps_of h.0, h.1, h.2)
+  refused_by j e (sound m) g n lt = absurd (omega (arith, ap number_of (sound_right s e).1))
 
 pub solve_refused : SolveRefused
 solve_refused rs ps ns ls lead budget p₀ w₀ p w r s g n lt =
@@ -35,7 +36,7 @@ solve_refused rs ps ns ls lead budget p₀ w₀ p w r s g n lt =
 pub refused_back : RefusedBack
 refused_back rs ps ns ls lead budget p₀ w₀ p w r s g f =
     let k = first_given rs ps ns ls lead budget p₀ w₀ f in
-    ap (λ (x : Solved). number_of x.answer) (refused_as k.0 s k.1).0 ∙ k.2
+    ap number_of (refused_as k.0 s k.1).0 ∙ k.2
 
 pub solve_right : SolveRight
 solve_right rs ps ns ls lead budget p₀ w₀ p w r s n = sound_right s (unmet_sound rs ps ns ls lead budget p₀ w₀ n)

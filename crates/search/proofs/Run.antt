@@ -6,6 +6,7 @@ use native.Mathlib.Nat.{zero-add, suc-add}
 use native.Mathlib.Decide.{dec_le}
 use native.Mathlib.Omega.{arith}
 use lib.IntN.{ℤ}
+use Rattle.std.specs.Prelude.{Option, Some, None}
 use Rattle.problem.specs.Problem.{Box}
 use Rattle.narrow.specs.Cuts.{Swept, empty, changed, unchanged}
 use Rattle.search.specs.Search.{lower_part, upper_part, Next, go, out, end, step, run, Outcome, stopped, found, none}
@@ -13,8 +14,6 @@ use Rattle.search.specs.Solve.{answered, point_of}
 use Rattle.search.specs.Demand2.{Decides}
 use Rattle.search.specs.declared.Answer.TheVariants as answer
 use Rattle.search.specs.declared.Solved.{Solved}
-use Rattle.search.specs.declared.Open.{Open}
-use Rattle.search.specs.declared.Open.TheVariants.{At, Closed}
 
 -- two answers that differ
 pub never : {A : Type 0} → ◌≡◌ {A = ℕ} 0 1 → A
@@ -53,7 +52,7 @@ point_counted k (stopped c ws) p = refl
 point_counted k (found c ws left) p = refl
 point_counted k (none left) p = refl
 
-module _ (sweep : Box → Swept) (choose : Box → Open) where
+module _ (sweep : Box → Swept) (choose : Box → Option ℕ) where
   module _ (k : ℕ) (c : Box) (ws : List Box) where
     pub run_go : {b : Box} {bs : List Box} → step sweep choose c ws ≡ go b bs → run sweep choose (suc k) c ws ≡ run sweep choose k b bs
     unfolding run
@@ -81,11 +80,11 @@ module _ (sweep : Box → Swept) (choose : Box → Open) where
     unfolding step
     step_cut e = rw e
 
-    pub step_split : {c' : Box} {q : ℕ} {ws : List Box} → sweep c ≡ unchanged c' → choose c ≡ At q → step sweep choose c ws ≡ go (lower_part c q) (upper_part c q ∷ ws)
+    pub step_split : {c' : Box} {q : ℕ} {ws : List Box} → sweep c ≡ unchanged c' → choose c ≡ Some q → step sweep choose c ws ≡ go (lower_part c q) (upper_part c q ∷ ws)
     unfolding step
     step_split e f = rw (e, f)
 
-    pub step_end : {c' : Box} (ws : List Box) → sweep c ≡ unchanged c' → choose c ≡ Closed → step sweep choose c ws ≡ end
+    pub step_end : {c' : Box} (ws : List Box) → sweep c ≡ unchanged c' → choose c ≡ None → step sweep choose c ws ≡ end
     unfolding step
     step_end ws e f = rw (e, f)
 
@@ -94,15 +93,15 @@ module _ (sweep : Box → Swept) (choose : Box → Open) where
     pub record Kept : Type 0 where
       pub taken : (c : Box) (ws : List Box) → I (c ∷ ws) → sweep c ≡ empty → I ws
       pub cut : (c b : Box) (ws : List Box) → I (c ∷ ws) → sweep c ≡ changed b → I (b ∷ ws)
-      pub split : (c c' : Box) (q : ℕ) (ws : List Box) → I (c ∷ ws) → sweep c ≡ unchanged c' → choose c ≡ At q → I (lower_part c q ∷ upper_part c q ∷ ws)
+      pub split : (c c' : Box) (q : ℕ) (ws : List Box) → I (c ∷ ws) → sweep c ≡ unchanged c' → choose c ≡ Some q → I (lower_part c q ∷ upper_part c q ∷ ws)
 
     module _ (t : Kept) (k : ℕ) (on : (c : Box) (ws : List Box) → I (c ∷ ws) → I (boxes_of (run sweep choose k c ws))) (c : Box) where
-      by_sweep : (ws : List Box) → I (c ∷ ws) → (x : Swept) → sweep c ≡ x → (y : Open) → choose c ≡ y → I (boxes_of (run sweep choose (suc k) c ws))
+      by_sweep : (ws : List Box) → I (c ∷ ws) → (x : Swept) → sweep c ≡ x → (y : Option ℕ) → choose c ≡ y → I (boxes_of (run sweep choose (suc k) c ws))
       by_sweep [] i empty e y f = rw (run_out k c [] (step_out e)) (t.taken c [] i e)
       by_sweep (w ∷ ws) i empty e y f = rw (run_go k c (w ∷ ws) (step_taken e)) (on w ws (t.taken c (w ∷ ws) i e))
       by_sweep ws i (changed b) e y f = rw (run_go k c ws (step_cut e)) (on b ws (t.cut c b ws i e))
-      by_sweep ws i (unchanged b) e (At q) f = rw (run_go k c ws (step_split e f)) (on _ _ (t.split c b q ws i e f))
-      by_sweep ws i (unchanged b) e Closed f = rw (run_end k c ws (step_end ws e f)) i
+      by_sweep ws i (unchanged b) e (Some q) f = rw (run_go k c ws (step_split e f)) (on _ _ (t.split c b q ws i e f))
+      by_sweep ws i (unchanged b) e None f = rw (run_end k c ws (step_end ws e f)) i
 
     pub kept : Kept → (k : ℕ) (c : Box) (ws : List Box) → I (c ∷ ws) → I (boxes_of (run sweep choose k c ws))
     unfolding run
@@ -112,7 +111,7 @@ module _ (sweep : Box → Swept) (choose : Box → Open) where
   -- found: a sweep left the box unchanged, and it has nothing to split
   abbrev pub Quiet : Outcome → Type 0
   Quiet (stopped c ws) = Unit {0}
-  Quiet (found c ws left) = (b : Box) × (sweep c ≡ unchanged b) × (choose c ≡ Closed)
+  Quiet (found c ws left) = (b : Box) × (sweep c ≡ unchanged b) × (choose c ≡ None)
   Quiet (none left) = Unit {0}
 
   pub quiet : (k : ℕ) (c : Box) (ws : List Box) → Quiet (run sweep choose k c ws)
@@ -120,12 +119,12 @@ module _ (sweep : Box → Swept) (choose : Box → Open) where
   quiet zero c ws = tt
   quiet (suc k) c ws = by ws (sweep c) refl (choose c) refl (quiet k)
     where
-      by : (ws : List Box) (x : Swept) → sweep c ≡ x → (y : Open) → choose c ≡ y → ((b : Box) (bs : List Box) → Quiet (run sweep choose k b bs)) → Quiet (run sweep choose (suc k) c ws)
+      by : (ws : List Box) (x : Swept) → sweep c ≡ x → (y : Option ℕ) → choose c ≡ y → ((b : Box) (bs : List Box) → Quiet (run sweep choose k b bs)) → Quiet (run sweep choose (suc k) c ws)
       by [] empty e y f on = rw (run_out k c [] (step_out e)) tt
       by (w ∷ ws) empty e y f on = rw (run_go k c (w ∷ ws) (step_taken e)) (on w ws)
       by ws (changed b) e y f on = rw (run_go k c ws (step_cut e)) (on b ws)
-      by ws (unchanged b) e (At q) f on = rw (run_go k c ws (step_split e f)) (on _ _)
-      by ws (unchanged b) e Closed f on = rw (run_end k c ws (step_end ws e f)) (b, e, f)
+      by ws (unchanged b) e (Some q) f on = rw (run_go k c ws (step_split e f)) (on _ _)
+      by ws (unchanged b) e None f on = rw (run_end k c ws (step_end ws e f)) (b, e, f)
 
   -- ---- a larger budget
   -- what m more sweeps make of an outcome

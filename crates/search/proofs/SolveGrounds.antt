@@ -6,14 +6,13 @@ use mathlib.Core.List.{List, [], ◌∷◌}
 use Prim.Native.Nat.{ℕ}
 use native.Mathlib.Omega.{arith}
 use lib.IntN.{ℤ}
+use Rattle.std.specs.Prelude.{Ok, Err}
 use Rattle.problem.specs.Problem.{quantities}
 use Rattle.problem.specs.Grounds.{bad_quantities, bad_lists, bad_ranges, bad_primitives, bad_literals, judge_of, refusal_number, FirstOf}
 use Rattle.problem.specs.Leading.{bad_leading}
 use Rattle.problem.specs.declared.Refusal.{Refusal}
 use Rattle.problem.specs.declared.Refusal.TheVariants.{Quantities, Lists, Ranges, Primitives, Literals, Budget, Room, Leading}
-use Rattle.problem.specs.declared.Judged.{Judged}
-use Rattle.problem.specs.declared.Judged.TheVariants.{Sound, Refused}
-use Rattle.search.specs.Solve.{bad_budget, bad_room, or_else, judged, solve_order, SolveGround, by_quantities, by_lists, by_ranges, by_primitives, by_literals, by_budget, by_leading, by_room}
+use Rattle.search.specs.Solve.{Judged, bad_budget, bad_room, or_else, judged, solve_order, SolveGround, by_quantities, by_lists, by_ranges, by_primitives, by_literals, by_budget, by_leading, by_room}
 
 -- ---- the first of an order
 -- it is met, and there is one only
@@ -40,8 +39,8 @@ module _ (rs ps ns ls : List ℤ) (lead budget : ℤ) (point work : List ℤ) wh
 
   -- a refusal by the first ground met, or none is
   pub data Judgement : Judged → Type 0 where
-    refused : {g : Refusal} → FirstOf solve_order (SolveGround rs ps ns ls lead budget point work) (refusal_number g) → Judgement (Refused g)
-    sound : ((g : ℕ) → SolveGround rs ps ns ls lead budget point work g → ⊥) → Judgement Sound
+    refused : {g : Refusal} → FirstOf solve_order (SolveGround rs ps ns ls lead budget point work) (refusal_number g) → Judgement (Err g)
+    sound : ((g : ℕ) → SolveGround rs ps ns ls lead budget point work g → ⊥) → Judgement (Ok tt)
 
   -- ---- a ground is not met where its test is false
   not_1 : bad_quantities rs ≡ false → Met 1 → ⊥
@@ -78,7 +77,7 @@ module _ (rs ps ns ls : List ℤ) (lead budget : ℤ) (point work : List ℤ) wh
 
   -- ---- the chain of tests: each that is passed leaves the first of the rest of the order
   by_tests : (a₁ : Bool) → bad_quantities rs ≡ a₁ → (a₂ : Bool) → bad_lists ps ns ls ≡ a₂ → (a₃ : Bool) → bad_ranges rs ≡ a₃ → (a₄ : Bool) → bad_primitives (quantities rs) ps ≡ a₄ → (a₅ : Bool) → bad_literals (quantities rs) ls ≡ a₅ → (a₆ : Bool) → bad_budget budget ≡ a₆ → (a₈ : Bool) → bad_leading rs ps lead ≡ a₈ → (a₇ : Bool) → bad_room lead rs point work ≡ a₇
-      → Judgement (or_else (cond a₁ (Refused Quantities) (cond a₂ (Refused Lists) (cond a₃ (Refused Ranges) (cond a₄ (Refused Primitives) (cond a₅ (Refused Literals) Sound))))) (cond a₆ (Refused Budget) (cond a₈ (Refused Leading) (cond a₇ (Refused Room) Sound))))
+      → Judgement (or_else (cond a₁ (Err Quantities) (cond a₂ (Err Lists) (cond a₃ (Err Ranges) (cond a₄ (Err Primitives) (cond a₅ (Err Literals) (Ok tt)))))) (cond a₆ (Err Budget) (cond a₈ (Err Leading) (cond a₇ (Err Room) (Ok tt)))))
   by_tests true e₁ a₂ e₂ a₃ e₃ a₄ e₄ a₅ e₅ a₆ e₆ a₈ e₈ a₇ e₇ = refused (inl (refl, by_quantities e₁))
   by_tests false e₁ true e₂ a₃ e₃ a₄ e₄ a₅ e₅ a₆ e₆ a₈ e₈ a₇ e₇ = refused (inr (not_1 e₁, inl (refl, by_lists e₂)))
   by_tests false e₁ false e₂ true e₃ a₄ e₄ a₅ e₅ a₆ e₆ a₈ e₈ a₇ e₇ = refused (inr (not_1 e₁, inr (not_2 e₂, inl (refl, by_ranges e₃))))
@@ -97,18 +96,18 @@ module _ (rs ps ns ls : List ℤ) (lead budget : ℤ) (point work : List ℤ) wh
       by_tests (bad_quantities rs) refl (bad_lists ps ns ls) refl (bad_ranges rs) refl (bad_primitives (quantities rs) ps) refl (bad_literals (quantities rs) ls) refl (bad_budget budget) refl (bad_leading rs ps lead) refl
       (bad_room lead rs point work) refl
 
-  pub unmet_sound : ((g : ℕ) → SolveGround rs ps ns ls lead budget point work g → ⊥) → judged rs ps ns ls lead budget point work ≡ Sound
+  pub unmet_sound : ((g : ℕ) → SolveGround rs ps ns ls lead budget point work g → ⊥) → judged rs ps ns ls lead budget point work ≡ Ok tt
   unmet_sound n = by (judged rs ps ns ls lead budget point work) judgement
     where
-      by : (j : Judged) → Judgement j → j ≡ Sound
+      by : (j : Judged) → Judgement j → j ≡ Ok tt
       by j (refused {g = r} f) = absurd (n (refusal_number r) (first_met Met solve_order (refusal_number r) f))
       by j (sound m) = refl
 
   -- the first ground met is the one that is given
   pub first_given : {g : ℕ} → FirstOf solve_order (SolveGround rs ps ns ls lead budget point work) g
-      → (r : Refusal) × (judged rs ps ns ls lead budget point work ≡ Refused r) × (refusal_number r ≡ g)
+      → (r : Refusal) × (judged rs ps ns ls lead budget point work ≡ Err r) × (refusal_number r ≡ g)
   first_given {g} f = by (judged rs ps ns ls lead budget point work) judgement
     where
-      by : (j : Judged) → Judgement j → (r : Refusal) × (j ≡ Refused r) × (refusal_number r ≡ g)
+      by : (j : Judged) → Judgement j → (r : Refusal) × (j ≡ Err r) × (refusal_number r ≡ g)
       by j (refused {g = r} k) = (r, refl, first_once Met solve_order (refusal_number r) g k f)
       by j (sound m) = absurd (m g (first_met Met solve_order g f))

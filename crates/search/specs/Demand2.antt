@@ -4,7 +4,7 @@ use Rattle.whole.specs.Ranges.{Point}
 use Rattle.problem.specs.Problem.{quantities, Problem, Satisfies}
 use Rattle.problem.specs.Order.{Before}
 use Rattle.search.specs.Search.{Outcome, stopped, found, none, search_of}
-use Rattle.search.specs.Solve.{answered, point_of, number_of}
+use Rattle.search.specs.Solve.{answered, point_of}
 use Rattle.search.specs.declared.Answer.{Answer}
 use Rattle.search.specs.declared.Answer.TheVariants.{None, Found, Stopped}
 
@@ -29,8 +29,6 @@ Decides (none left) = Unit {0}
 
 -- an answer to a problem with a budget, its count of sweeps, and the numbers in the point buffer
 pub record Right (b : Problem) (budget : ℕ) (a : Answer) (sweeps : ℕ) (point : List ℤ) : Type 0 where
-  -- it is none, found or stopped, and no refusal
-  pub not_refused : number_of a ≡ 0
   -- none: no point of the starting box satisfies everything
   pub none : a ≡ None → (x : Point) → Satisfies b x → ⊥
   -- found: the smallest such point

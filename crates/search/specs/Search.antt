@@ -1,13 +1,11 @@
 -- The search: document 01, "The search". It goes by a budget of sweeps, one a step, whatever a sweep does and whichever quantity is split;
 -- the last lines put in document 01's sweep and its choice.
-use Rattle.std.specs.Prelude.{true, false, List, [], ◌∷◌, ℕ, zero, suc, ◌+◌, ◌*◌, set, ℤ, pos, ◌+ℤ◌}
+use Rattle.std.specs.Prelude.{true, false, List, [], ◌∷◌, ℕ, zero, suc, ◌+◌, ◌*◌, set, ℤ, pos, ◌+ℤ◌, Option, Some, None}
 use Rattle.std.specs.Int.Signed.{lt_z}
 use Rattle.whole.specs.Numbers.{middle_of}
 use Rattle.problem.specs.Problem.{Box, low_at, high_at, quantities, Problem}
 use Rattle.narrow.specs.Cuts.{Swept, empty, changed, unchanged}
 use Rattle.narrow.specs.Sweep.{sweep_of}
-use Rattle.search.specs.declared.Open.{Open}
-use Rattle.search.specs.declared.Open.TheVariants.{At, Closed}
 
 -- m = (low+high)/2 rounded towards minus infinity
 abbrev pub middle_at : Box → ℕ → ℤ
@@ -39,18 +37,18 @@ pub data Next : Type 0 where
   out : Next
   end : Next
 
-abbrev pub after_sweep : Swept → Open → Box → List Box → Next
+abbrev pub after_sweep : Swept → Option ℕ → Box → List Box → Next
 -- 2. Empty after the sweep: take the waiting box stored last; if there is none, none
 after_sweep empty o c [] = out
 after_sweep empty o c (w ∷ ws) = go w ws
 -- 3. A range changed: sweep the same box again
 after_sweep (changed b) o c ws = go b ws
 -- 4. Nothing changed and every range is one value, so that there is nothing to split: found
-after_sweep (unchanged b) Closed c ws = end
+after_sweep (unchanged b) None c ws = end
 -- 5. Nothing changed otherwise: cut the open quantity at m; the upper part waits; go on with the lower
-after_sweep (unchanged b) (At q) c ws = go (lower_part c q) (upper_part c q ∷ ws)
+after_sweep (unchanged b) (Some q) c ws = go (lower_part c q) (upper_part c q ∷ ws)
 
-module _ (sweep : Box → Swept) (choose : Box → Open) where
+module _ (sweep : Box → Swept) (choose : Box → Option ℕ) where
   unfoldable pub step : Box → List Box → Next
   step c ws = let o = choose c in after_sweep (sweep c) o c ws
 
@@ -61,12 +59,12 @@ module _ (sweep : Box → Swept) (choose : Box → Open) where
   run (suc k) c ws = elim (step c ws) [ go b bs ↦ run k b bs | out ↦ none k | end ↦ found c ws k ]
 
 -- the lowest-numbered quantity with more than one value, of k from q on
-unfoldable pub open_from : Box → ℕ → ℕ → Open
-open_from b zero q = Closed
-open_from b (suc k) q = elim (lt_z (low_at b q) (high_at b q)) [ true ↦ At q | false ↦ open_from b k (suc q) ]
+unfoldable pub open_from : Box → ℕ → ℕ → Option ℕ
+open_from b zero q = None
+open_from b (suc k) q = elim (lt_z (low_at b q) (high_at b q)) [ true ↦ Some q | false ↦ open_from b k (suc q) ]
 
 -- of the first n
-abbrev pub lowest : ℕ → Box → Open
+abbrev pub lowest : ℕ → Box → Option ℕ
 lowest n b = open_from b n 0
 
 -- the search of a problem: it starts with the given box, and no box waits

@@ -1,17 +1,15 @@
 -- What a solve gives back, and what it leaves in the caller's buffers: document 01, "What a solve gives back", and document 02, L6.
-use Rattle.std.specs.Prelude.{◌≡◌, Bool, true, not, cond, ◌||◌, List, [], ◌∷◌, ◌++◌, ℕ, ◌-◌, eqb, ltb, ℤ, pos, length, drop, replicate}
+use Rattle.std.specs.Prelude.{◌≡◌, Bool, true, not, cond, ◌||◌, List, [], ◌∷◌, ◌++◌, ℕ, ◌-◌, eqb, ltb, ℤ, pos, length, drop, replicate, Result, Ok, Err}
 use Rattle.std.specs.Int.Signed.{lt_z}
 use Rattle.whole.specs.Numbers.{positive_part}
 use Rattle.problem.specs.Problem.{Box, quantities}
 use Rattle.problem.specs.Lists.{problem_of}
 use Rattle.problem.specs.Grounds.{bad_quantities, bad_lists, bad_ranges, bad_primitives, bad_literals, judge_of, refusal_number}
 use Rattle.problem.specs.Leading.{bad_leading}
+use Rattle.problem.specs.declared.Refusal.{Refusal}
 use Rattle.problem.specs.declared.Refusal.TheVariants.{Budget, Room, Leading}
-use Rattle.problem.specs.declared.Judged.{Judged}
-use Rattle.problem.specs.declared.Judged.TheVariants.{Sound, Refused}
 use Rattle.search.specs.Search.{Outcome, stopped, found, none, search_of}
 use Rattle.search.specs.Depth.{room_of}
-use Rattle.search.specs.declared.Answer.{Answer}
 use Rattle.search.specs.declared.Answer.TheVariants as answer
 use Rattle.search.specs.declared.Solved.{Solved}
 
@@ -46,16 +44,20 @@ pub data SolveGround (rs ps ns ls : List ℤ) (lead budget : ℤ) (point work : 
 abbrev pub solve_order : List ℕ
 solve_order = 1 ∷ 2 ∷ 3 ∷ 4 ∷ 5 ∷ 6 ∷ 8 ∷ 7 ∷ []
 
+-- what lists, leading number, budget and buffers are judged: nothing against them, or the ground of a refusal
+abbrev pub Judged : Type 0
+Judged = Result (Unit {0}) Refusal
+
 -- the first ground met, in this order
 abbrev pub or_else : Judged → Judged → Judged
-or_else Sound j = j
-or_else (Refused g) j = Refused g
+or_else (Ok u) j = j
+or_else (Err g) j = Err g
 
 unfoldable pub judged : List ℤ → List ℤ → List ℤ → List ℤ → ℤ → ℤ → List ℤ → List ℤ → Judged
 judged rs ps ns ls lead budget point work =
     or_else (judge_of rs ps ns ls)
-    (cond (bad_budget budget) (Refused Budget)
-    (cond (bad_leading rs ps lead) (Refused Leading) (cond (bad_room lead rs point work) (Refused Room) Sound)))
+    (cond (bad_budget budget) (Err Budget)
+    (cond (bad_leading rs ps lead) (Err Leading) (cond (bad_room lead rs point work) (Err Room) (Ok tt))))
 
 -- the low end of each quantity in a box
 unfoldable pub lows : Box → List ℤ
@@ -69,10 +71,10 @@ answered budget (stopped c ws) = record { answer = answer.Stopped; sweeps = budg
 answered budget (found c ws left) = record { answer = answer.Found; sweeps = budget - left }
 answered budget (none left) = record { answer = answer.None; sweeps = budget - left }
 
--- a refusal gives its number and sweep count 0
-abbrev pub result_of : Judged → ℕ → Outcome → Solved
-result_of Sound budget o = answered budget o
-result_of (Refused g) budget o = record { answer = answer.Refused g; sweeps = 0 }
+-- a refusal, or the answer
+abbrev pub result_of : Judged → ℕ → Outcome → Result Solved Refusal
+result_of (Ok u) budget o = Ok (answered budget o)
+result_of (Err g) budget o = Err g
 
 -- found, the point; stopped, the floor; none, unchanged
 abbrev pub point_of : Outcome → List ℤ → List ℤ
@@ -82,22 +84,25 @@ point_of (none left) point = point
 
 -- after a refusal as it came
 abbrev pub unless : Judged → List ℤ → List ℤ → List ℤ
-unless Sound new old = new
-unless (Refused g) new old = old
+unless (Ok u) new old = new
+unless (Err g) new old = old
 
 -- the first numbers of the workspace are 0, the rest unchanged
 abbrev pub cleared : ℕ → List ℤ → List ℤ
 cleared room work = replicate room (pos 0) ++ drop room work
 
 -- the result, and what point buffer and workspace hold (p, w), from what they came with (p₀, w₀)
-pub record Solves (rs ps ns ls : List ℤ) (lead budget : ℤ) (p₀ w₀ p w : List ℤ) (r : Solved) : Type 0 where
+pub record Solves (rs ps ns ls : List ℤ) (lead budget : ℤ) (p₀ w₀ p w : List ℤ) (r : Result Solved Refusal) : Type 0 where
   pub result : r ≡ result_of (judged rs ps ns ls lead budget p₀ w₀) (positive_part budget) (search_of (problem_of rs ps ns ls) (positive_part budget))
   pub point : p ≡ unless (judged rs ps ns ls lead budget p₀ w₀) (point_of (search_of (problem_of rs ps ns ls) (positive_part budget)) p₀) p₀
   pub work : w ≡ unless (judged rs ps ns ls lead budget p₀ w₀) (cleared (room_of (positive_part lead) rs) w₀) w₀
 
 -- document 01's number of a refusal; 0 where there is none
-abbrev pub number_of : Answer → ℕ
-number_of answer.None = 0
-number_of answer.Found = 0
-number_of answer.Stopped = 0
-number_of (answer.Refused g) = refusal_number g
+abbrev pub number_of : Result Solved Refusal → ℕ
+number_of (Ok s) = 0
+number_of (Err g) = refusal_number g
+
+-- the sweep count, which is 0 at a refusal
+abbrev pub sweeps_of : Result Solved Refusal → ℕ
+sweeps_of (Ok s) = s.sweeps
+sweeps_of (Err g) = 0

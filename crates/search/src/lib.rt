@@ -9,22 +9,14 @@ ghost use Rattle.search.specs.Solve.{judged, Solves};
 ghost use Rattle.search.specs.inner.Ready.{solved_by, Ready, Searched};
 
 use narrow::Status;
-use problem::{Judged, Refusal};
+use problem::{Problem, Refusal};
 
-// The quantity to split, if there is one.
-#[derive(Clone, Copy)]
-pub enum Open {
-    At(usize),
-    Closed,
-}
-
-// What a solve answers.
+// What a solve answers where it refuses nothing.
 #[derive(Clone, Copy)]
 pub enum Answer {
     None,
     Found,
     Stopped,
-    Refused(Refusal),
 }
 
 // The answer, and the number of sweeps used.
@@ -45,54 +37,46 @@ fn after(sweeps: usize, answer: Answer) -> Solved
 }
 
 // The first ground met, 1 to 6, then 8, then 7.
+#[tactic(auto, unfolding(crate::specs::Solve::judged))]
 fn judge(
-    ranges: &[i64],
-    primitives: &[i64],
-    lengths: &[i64],
-    literals: &[i64],
+    problem: Problem,
     leading: i64,
     budget: i64,
     point: &[i64],
     work: &[i64],
-) -> Judged
-    ensures { result ≡ judged ranges.now primitives.now lengths.now literals.now leading budget point.now work.now }
+) -> Result<(), Refusal>
+    ensures { result ≡ judged problem.entry.ranges.now problem.entry.primitives.now problem.entry.lengths.now problem.entry.literals.now leading budget point.now work.now }
 {
-    let judged = problem::judge(ranges, primitives, lengths, literals);
-    if let Judged::Refused(ground) = judged {
-        return Judged::Refused(ground);
-    }
+    problem.judge()?;
     if budget < 0 || MOST < budget {
-        return Judged::Refused(Refusal::Budget);
+        return Err(Refusal::Budget);
     }
-    if problem::leading::bad_leading(ranges, primitives, leading) {
-        return Judged::Refused(Refusal::Leading);
+    if problem.bad_leading(leading) {
+        return Err(Refusal::Leading);
     }
-    if point.len() != ranges.len() / 2 {
-        return Judged::Refused(Refusal::Room);
+    if point.len() != problem.ranges.len() / 2 {
+        return Err(Refusal::Room);
     }
-    if work.len() < room::needed(ranges, leading as usize) {
-        return Judged::Refused(Refusal::Room);
+    if work.len() < room::needed(problem.ranges, leading as usize) {
+        return Err(Refusal::Room);
     }
-    Judged::Sound
+    Ok(())
 }
 
 // The search of the starting box, in slots of the workspace: the boxes that wait, and the box in hand behind them.
 // The leading quantities say how many boxes can wait.
 fn search(
-    ranges: &[i64],
-    primitives: &[i64],
-    lengths: &[i64],
-    literals: &[i64],
+    problem: Problem,
     leading: usize,
     budget: usize,
     point: &mut [i64],
     work: &mut [i64],
 ) -> Solved
-    requires { Ready ranges.now primitives.now lengths.now literals.now leading point.old work.old }
-    ensures { Searched ranges.now primitives.now lengths.now literals.now leading budget point.old work.old point.new work.new result }
+    requires { Ready problem.ranges.now problem.primitives.now problem.lengths.now problem.literals.now leading point.old work.old }
+    ensures { Searched problem.entry.ranges.now problem.entry.primitives.now problem.entry.lengths.now problem.entry.literals.now leading budget point.old work.old point.new work.new result }
 {
-    let width = ranges.len();
-    boxes::copy(ranges, &mut work[..width]);
+    let width = problem.ranges.len();
+    work[..width].copy_from_slice(problem.ranges);
     let mut waiting = 0;
     let mut left = budget;
     loop {
@@ -103,8 +87,7 @@ fn search(
             return after(budget, Answer::Stopped);
         }
         left -= 1;
-        let swept = narrow::sweep(&mut work[at..end], primitives, lengths, literals);
-        match swept {
+        match narrow::sweep(&mut work[at..end], problem) {
             Status::Empty => {
                 if waiting == 0 {
                     return after(budget - left, Answer::None);
@@ -113,7 +96,7 @@ fn search(
             }
             Status::Changed => {}
             Status::Same => {
-                let Open::At(q) = boxes::lowest_open(&work[at..end]) else {
+                let Some(q) = boxes::lowest_open(&work[at..end]) else {
                     boxes::lows_to(&work[at..end], point);
                     return after(budget - left, Answer::Found);
                 };
@@ -127,34 +110,18 @@ fn search(
 
 // Solves a problem: the answer with its count of sweeps, and in the point buffer the point found or the floor.
 pub fn solve(
-    ranges: &[i64],
-    primitives: &[i64],
-    lengths: &[i64],
-    literals: &[i64],
+    problem: Problem,
     leading: i64,
     budget: i64,
     point: &mut [i64],
     work: &mut [i64],
-) -> Solved
-    ensures { Solves ranges.now primitives.now lengths.now literals.now leading budget point.old work.old point.new work.new result }
+) -> Result<Solved, Refusal>
+    ensures { Solves problem.entry.ranges.now problem.entry.primitives.now problem.entry.lengths.now problem.entry.literals.now leading budget point.old work.old point.new work.new result }
 {
-    let judged = judge(
-        ranges, primitives, lengths, literals, leading, budget, point, work,
-    );
-    if let Judged::Refused(ground) = judged {
-        return after(0, Answer::Refused(ground));
-    }
-    let solved = search(
-        ranges,
-        primitives,
-        lengths,
-        literals,
-        leading as usize,
-        budget as usize,
-        point,
-        work,
-    );
-    let needed = room::needed(ranges, leading as usize);
-    boxes::clear(&mut work[..needed]);
-    solved
+    judge(problem, leading, budget, point, work)?;
+    let leading = leading as usize;
+    let solved = search(problem, leading, budget as usize, point, work);
+    let needed = room::needed(problem.ranges, leading);
+    work[..needed].fill(0);
+    Ok(solved)
 }

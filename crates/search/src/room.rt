@@ -9,12 +9,9 @@ fn depth(ranges: &[i64], leading: usize) -> usize
     requires { Led ranges.now leading }
     ensures { Deep leading ranges.now result }
 {
-    let mut sum: usize = 0;
-    let mut q = 0;
-    while q < leading {
-        let range = narrow::range_at(ranges, q);
-        sum += whole::power::halvings(range);
-        q += 1;
+    let mut sum = 0;
+    for q in 0..leading {
+        sum += whole::power::halvings(narrow::range_at(ranges, q));
     }
     sum
 }

@@ -1,5 +1,6 @@
 -- What a token tells of its piece: a value is tested against M last of all, `-` wants a value that is not 0, a mark has the number of its bytes,
 -- and a name is made of its letters alone.
+use Rattle.std.specs.Prelude.{Some, None}
 use mathlib.Core.Path.{◌≡◌, refl, sym, subst}
 use mathlib.Core.Bool.{Bool, true, false, cond, ◌&&◌}
 use mathlib.Core.List.{List, [], ◌∷◌, map}
@@ -9,26 +10,24 @@ use lib.Dec.{leb, ltb, eqb}
 use lib.ListN.{length, drop}
 use borrow.Author.Tests.{leb-true, ltb-true, eqb-true}
 use Rattle.whole.specs.Lists.{AllOf}
-use Rattle.sheet.specs.Tokens.{pieces_of, is_digit, unit_of, limited, suffix_of, digits_of, digit_first, number_of, as_number, as_negative, key_of, all_lower, mark_of, or_else, as_name, word_of, minus_first, behind, token_of, tokens_of}
+use Rattle.sheet.specs.Tokens.{Value, pieces_of, is_digit, unit_of, limited, suffix_of, digits_of, digit_first, number_of, as_number, as_negative, key_of, all_lower, mark_of, or_else, as_name, word_of, minus_first, behind, token_of, tokens_of}
 use Rattle.sheet.specs.Reading.{head_of}
 use Rattle.sheet.specs.inner.Steps.{tokens_from}
 use Rattle.sheet.specs.inner.Contents.{Proper}
 use Rattle.sheet.specs.declared.Mark.{Mark}
-use Rattle.sheet.specs.declared.Value.{Value}
-use Rattle.sheet.specs.declared.Value.TheVariants.{Is, Not}
 use Rattle.sheet.specs.declared.Token.{Token}
 use Rattle.sheet.specs.declared.Token.TheVariants.{Number, Negative, Name, Fixed, Bad}
 use Rattle.sheet.proofs.Marks.{mark_key, marks, among, mark_table}
 
 -- ---- values are at most M
 abbrev Small : Value → Type 0
-Small (Is v) = v ≤ 1_000_000_000_000
-Small Not = Unit {0}
+Small (Some v) = v ≤ 1_000_000_000_000
+Small None = Unit {0}
 
 small_limited : (v : ℕ) → Small (limited v)
 small_limited v = by (leb v 1_000_000_000_000) refl
   where
-    by : (t : Bool) → leb v 1_000_000_000_000 ≡ t → Small (cond t (Is v) Not)
+    by : (t : Bool) → leb v 1_000_000_000_000 ≡ t → Small (cond t (Some v) None)
     by true e = leb-true v 1_000_000_000_000 e
     by false e = tt
 
@@ -38,7 +37,7 @@ small_cond false x y h k = k
 
 small_suffix : (v b : ℕ) (bs : List ℕ) → Small (suffix_of v b bs)
 unfolding suffix_of
-small_suffix v b [] = small_cond (eqb (unit_of b) 0) Not (limited (v * unit_of b)) tt (small_limited (v * unit_of b))
+small_suffix v b [] = small_cond (eqb (unit_of b) 0) None (limited (v * unit_of b)) tt (small_limited (v * unit_of b))
 small_suffix v b (x ∷ xs) = tt
 
 small_digits : (v : ℕ) (bs : List ℕ) → Small (digits_of v bs)
@@ -51,8 +50,8 @@ small_number : (w : List ℕ) → Small (number_of w)
 unfolding number_of
 small_number [] = tt
 small_number (b ∷ bs) =
-    small_cond (is_digit b) (cond (eqb b 48 && digit_first bs) Not (digits_of (b - 48) bs)) Not
-    (small_cond (eqb b 48 && digit_first bs) Not (digits_of (b - 48) bs) tt (small_digits (b - 48) bs)) tt
+    small_cond (is_digit b) (cond (eqb b 48 && digit_first bs) None (digits_of (b - 48) bs)) None
+    (small_cond (eqb b 48 && digit_first bs) None (digits_of (b - 48) bs) tt (small_digits (b - 48) bs)) tt
 
 -- ---- what each kind of token tells
 pub record Named (w : List ℕ) (n : ℕ) : Type 0 where
@@ -69,13 +68,13 @@ Told w (Fixed m) = key_of 0 w ≡ mark_key m
 Told w Bad = Unit {0}
 
 told_number : (w : List ℕ) (v : Value) → Small v → Told w (as_number v)
-told_number w (Is v) h = h
-told_number w Not h = tt
+told_number w (Some v) h = h
+told_number w None h = tt
 
 told_negative : (w : List ℕ) (v : Value) → Small v → Told w (as_negative v)
-told_negative w (Is zero) h = tt
-told_negative w (Is (suc v)) h = (omega arith, h)
-told_negative w Not h = tt
+told_negative w (Some zero) h = tt
+told_negative w (Some (suc v)) h = (omega arith, h)
+told_negative w None h = tt
 
 told_cond : (w : List ℕ) (b : Bool) (t u : Token) → Told w t → Told w u → Told w (cond b t u)
 told_cond w true t u h k = h

@@ -3,20 +3,20 @@ use mathlib.Core.Path.{◌≡◌, refl, sym, ◌∙◌, ap}
 use mathlib.Core.Bool.{Bool, true, false, ◌&&◌}
 use mathlib.Core.List.{List, [], ◌∷◌}
 use mathlib.Core.Option.{none, some}
-use Prim.Native.Nat.{ℕ, ◌-◌, ◌≤◌, ◌<◌}
+use Rattle.std.specs.Prelude.{Some, None}
+use Prim.Native.Nat.{ℕ, ◌^◌, ◌<◌}
 use native.Mathlib.Omega.{arith}
 use lib.Dec.{eqb}
-use lib.IntN.{ℤ, pos, negsuc, ◌-ℤ◌}
+use lib.IntN.{ℤ}
 use lib.ListN.{length}
 use borrow.Author.Tests.{ne_eqb}
-use mir.Syntax.{w64}
-use mir.Val.{SFits}
+use lib.Signed.{mag}
 use Rattle.sheet.proofs.Heads.{mark_above}
-use Rattle.whole.proofs.Kit.{ints, minus}
 use Rattle.sheet.specs.Grammar.{ranged, default}
 use Rattle.sheet.specs.Reading.{token_no, head_of, rest_of, head_no, signed_of, is_signed, read_range}
+use Rattle.sheet.specs.inner.Contents.{Proper}
 use Rattle.sheet.specs.inner.Forms.{declaration_of}
-use Rattle.sheet.specs.declared.Declaration.TheVariants.{Plain, Ranged, No}
+use Rattle.sheet.specs.declared.Declaration.TheVariants.{Plain, Ranged}
 use Rattle.sheet.specs.declared.Token.{Token}
 use Rattle.sheet.specs.declared.Token.TheVariants.{Number, Negative, Name, Fixed, Bad}
 
@@ -79,32 +79,30 @@ name_range (t ∷ (u ∷ (v ∷ []))) n e f g h = rw (e, f, g)
 name_range (t ∷ (u ∷ (v ∷ (w ∷ ws)))) n e f g h = let z : ◌≡◌ {A = ℕ} 0 1 = cc in absurd (omega arith)
 
 -- ---- the same by steps: us, vs and ws are what is left behind the first, the second and the third token
-pub declares_none : (ts : List Token) (t : Token) → t ≡ head_of ts → eqb (token_no t) 2 ≡ false → No ≡ declaration_of (read_range ts)
+pub declares_none : (ts : List Token) (t : Token) → t ≡ head_of ts → eqb (token_no t) 2 ≡ false → None ≡ declaration_of (read_range ts)
 declares_none ts t e h = sym (ap declaration_of (no_name ts (rw e at h)))
 
-pub declares_plain : (ts us : List Token) (t : Token) (n : ℕ) → t ≡ head_of ts → t ≡ Name n → us ≡ rest_of ts → us ≡ [] → Plain n ≡ declaration_of (read_range ts)
+pub declares_plain : (ts us : List Token) (t : Token) (n : ℕ) → t ≡ head_of ts → t ≡ Name n → us ≡ rest_of ts → us ≡ [] → Some (Plain n) ≡ declaration_of (read_range ts)
 declares_plain ts us t n e f q h = sym (ap declaration_of (name_alone ts n (sym e ∙ f) (sym q ∙ h)))
 
-pub declares_low : (ts us : List Token) (low : Token) → us ≡ rest_of ts → low ≡ head_of us → 0 < length us → is_signed low ≡ false → No ≡ declaration_of (read_range ts)
+pub declares_low : (ts us : List Token) (low : Token) → us ≡ rest_of ts → low ≡ head_of us → 0 < length us → is_signed low ≡ false → None ≡ declaration_of (read_range ts)
 declares_low ts us low q e h f = sym (ap declaration_of (no_low ts (rw q at h) (rw (e, q) at f)))
 
-pub declares_high : (ts us vs : List Token) (high : Token) → us ≡ rest_of ts → vs ≡ rest_of us → high ≡ head_of vs → 0 < length us → is_signed high ≡ false → No ≡ declaration_of (read_range ts)
+pub declares_high : (ts us vs : List Token) (high : Token) → us ≡ rest_of ts → vs ≡ rest_of us → high ≡ head_of vs → 0 < length us → is_signed high ≡ false → None ≡ declaration_of (read_range ts)
 declares_high ts us vs high q r e h f = sym (ap declaration_of (no_high ts (rw q at h) (rw (e, r, q) at f)))
 
-pub declares_more : (ts us vs ws : List Token) → us ≡ rest_of ts → vs ≡ rest_of us → ws ≡ rest_of vs → 0 < length ws → No ≡ declaration_of (read_range ts)
+pub declares_more : (ts us vs ws : List Token) → us ≡ rest_of ts → vs ≡ rest_of us → ws ≡ rest_of vs → 0 < length ws → None ≡ declaration_of (read_range ts)
 declares_more ts us vs ws q r s h = sym (ap declaration_of (more_left ts (rw (s, r, q) at h)))
 
-pub declares_range : (ts us vs ws : List Token) (t low high : Token) (n : ℕ) (a b : ℤ) → t ≡ head_of ts → t ≡ Name n → us ≡ rest_of ts → low ≡ head_of us → vs ≡ rest_of us → high ≡ head_of vs → ws ≡ rest_of vs → ws ≡ [] → is_signed low ≡ true → is_signed high ≡ true → a ≡ signed_of low → b ≡ signed_of high → Ranged n a b ≡ declaration_of (read_range ts)
+pub declares_range : (ts us vs ws : List Token) (t low high : Token) (n : ℕ) (a b : ℤ) → t ≡ head_of ts → t ≡ Name n → us ≡ rest_of ts → low ≡ head_of us → vs ≡ rest_of us → high ≡ head_of vs → ws ≡ rest_of vs → ws ≡ [] → is_signed low ≡ true → is_signed high ≡ true → a ≡ signed_of low → b ≡ signed_of high → Some (Ranged n a b) ≡ declaration_of (read_range ts)
 declares_range ts us vs ws t low high n a b e f q el r eh s z fl fh g k =
     let read = name_range ts n (sym e ∙ f) (rw (el, q) at fl) (rw (eh, r, q) at fh) (rw (s, r, q) at z) in
     sym (ap declaration_of read ∙ sym (rw (g, k, el, eh, r, q)))
 
--- ---- a number with its sign
-pub number_fits : (n : ℕ) → n ≤ 1_000_000_000_000 → SFits w64 (pos n)
-number_fits n h = record { sfits = omega arith }
-
-pub below_zero : (n : ℕ) → 0 < n → pos 0 -ℤ pos n ≡ negsuc (n - 1)
-below_zero n h = omega (ints, minus (pos 0) (pos n))
-
-pub negative_fits : (n : ℕ) → 0 < n → n ≤ 1_000_000_000_000 → SFits w64 (pos 0 -ℤ pos n)
-negative_fits n g h = rw (below_zero n g) (record { sfits = omega arith })
+-- ---- a number with its sign fits 64 bits
+pub signed_fits : (t : Token) → Proper t → mag (signed_of t) < 2 ^ 63
+signed_fits (Number n) h = omega arith
+signed_fits (Negative n) h = omega arith
+signed_fits (Name n) h = omega arith
+signed_fits (Fixed m) h = omega arith
+signed_fits Bad h = omega arith

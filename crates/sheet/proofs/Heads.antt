@@ -23,7 +23,7 @@ mark_at : ℕ → Token
 mark_at n = Fixed (get_or marks (n - 4) Or)
 
 mark_at_lem : (t : Token) → 3 < token_no t → mark_at (token_no t) ≡ t
-unfolding mark_at marks get_or
+unfolding mark_at marks
 mark_at_lem (Number n) h = absurd (omega arith)
 mark_at_lem (Name n) h = absurd (omega arith)
 mark_at_lem (Negative n) h = absurd (omega arith)
@@ -68,7 +68,16 @@ mark_above Then = omega arith
 mark_above And = omega arith
 mark_above Or = omega arith
 
-is_number : (t : Token) → token_no t ≡ 1 → t ≡ Number (payload t)
+-- so a token with a mark's number is that mark, and any other token has another number
+pub is_mark : (t : Token) (m : Mark) → token_no t ≡ token_no (Fixed m) → t ≡ Fixed m
+is_mark t m e =
+    let h = mark_above m in
+    sym (mark_at_lem t (omega arith)) ∙ ap mark_at e ∙ mark_at_lem (Fixed m) h
+
+pub not_mark : (t : Token) (m : Mark) → (t ≡ Fixed m → ⊥) → token_no t ≡ token_no (Fixed m) → ⊥
+not_mark t m h e = h (is_mark t m e)
+
+pub is_number : (t : Token) → token_no t ≡ 1 → t ≡ Number (payload t)
 is_number (Number n) e = refl
 is_number (Negative n) e = absurd (omega arith)
 is_number (Name n) e = absurd (omega arith)
@@ -85,9 +94,7 @@ is_name Bad e = absurd (omega arith)
 -- tokens whose first has a number
 pub headed : (ts : List Token) (m : Mark) → head_no ts ≡ token_no (Fixed m) → ts ≡ Fixed m ∷ rest_of ts
 headed [] m e = absurd (omega (arith, mark_above m))
-headed (t ∷ ts) m e =
-    let h = mark_above m in
-    ap (λ (u : Token). u ∷ ts) (sym (mark_at_lem t (omega arith)) ∙ ap mark_at e ∙ mark_at_lem (Fixed m) h)
+headed (t ∷ ts) m e = ap (λ (u : Token). u ∷ ts) (is_mark t m e)
 
 -- a mark behind other tokens, and what follows it
 pub behind : (front ts us vs : List Token) (m : Mark) → head_no ts ≡ token_no (Fixed m) → rest_of ts ≡ us ++ vs

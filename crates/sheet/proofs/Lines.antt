@@ -73,10 +73,6 @@ pub span_start : (text : List ℕ) (k : ℕ) → span_of text k ≡ span_from te
 unfolding span_of span_from
 span_start text k = rw (zero-add (start_of (lines_of text) k), zero-add (start_of (lines_of text) k + length (line_of text k)))
 
-pub span_zero : (text : List ℕ) (k : ℕ) → k ≡ 0 → span_of text k ≡ record { start = length text; end = length text }
-unfolding span_of
-span_zero text k e = rw e
-
 module _ (text : List ℕ) (at : ℕ) where
   pub span_first : at < length text → span_from text at 1 ≡ record { start = at; end = place_of 10 text at }
   unfolding span_from line_of start_of
@@ -96,10 +92,15 @@ module _ (text : List ℕ) (at : ℕ) where
       let last : at + (f + 1 + s + w) ≡ at + f + 1 + (s + w) = omega arith in
       rw (one, from text at h, eqb-suc-zero (suc k), eqb-suc-zero k, leb-suc-suc (suc (length ls)) (suc k), first, last)
 
-  pub span_missing : length text ≤ at → (k : ℕ) → 0 < k → span_from text at k ≡ record { start = length text; end = length text }
+  -- line 0, and past the end each line
+  pub span_zero : (k : ℕ) → k ≡ 0 → span_from text at k ≡ record { start = length text; end = length text }
   unfolding span_from
-  span_missing h zero z = absurd (omega arith)
-  span_missing h (suc k) z = rw (lines_end text at h, eqb-suc-zero k, lt-ltb 0 (suc k) (omega arith))
+  span_zero k e = rw e
+
+  pub span_missing : length text ≤ at → (k : ℕ) → span_from text at k ≡ record { start = length text; end = length text }
+  unfolding span_from
+  span_missing h zero = refl
+  span_missing h (suc k) = rw (lines_end text at h, eqb-suc-zero k, lt-ltb 0 (suc k) (omega arith))
 
 -- ---- line k is what stands in its stretch, and the stretch lies in the text
 pub record Held (text : List ℕ) (k : ℕ) : Type 0 where

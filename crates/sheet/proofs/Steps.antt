@@ -18,7 +18,6 @@ use Rattle.sheet.specs.inner.Places.{up_to, place_of}
 use Rattle.sheet.specs.inner.Steps.{front, tokens_from, step_at}
 use Rattle.sheet.specs.declared.Token.{Token}
 use Rattle.sheet.specs.declared.Token.TheVariants.{Bad}
-use Rattle.sheet.proofs.Places.{up_to_short}
 
 -- the pieces behind the first space
 later : List ℕ → List (List ℕ)
@@ -91,9 +90,6 @@ step_cons l at h = rw (step_in l at h) (cons_at l at h)
 -- so in the line some token is left
 pub some_left : (l : List ℕ) (at : ℕ) → at ≤ length l → 0 < length (tokens_from l at)
 some_left l at h = rw (step_cons l at h) (omega arith)
-
-pub step_on : (l : List ℕ) (at : ℕ) → at ≤ length l → (at < (step_at l at).next) × ((step_at l at).next ≤ length l + 1)
-step_on l at h = rw (step_in l at h) (let b = up_to_short 32 (drop at l) in let c = length-drop at l in omega arith)
 
 -- the tokens from the start on are those of the line
 pub from_start : (l : List ℕ) → tokens_from l 0 ≡ tokens_of l

@@ -1,14 +1,12 @@
 -- What the pieces of a line are: document 01, "Sheets". Tokens are separated by exactly one space; a token is a number with its value, a name,
 -- or one of the fixed marks. A name is its letters as one number.
-use Rattle.std.specs.Prelude.{◌≡◌, Bool, true, false, cond, ◌&&◌, List, [], ◌∷◌, map, ℕ, zero, suc, ◌+◌, ◌-◌, ◌*◌, ◌≤◌, ◌<◌, leb, ltb, eqb, length}
+use Rattle.std.specs.Prelude.{◌≡◌, Bool, true, false, cond, ◌&&◌, List, [], ◌∷◌, map, ℕ, zero, suc, ◌+◌, ◌-◌, ◌*◌, ◌≤◌, ◌<◌, leb, ltb, eqb, length, Option, Some, None}
 use Prim.Native.String.{String}
 use Rattle.sheet.specs.Lines.{with_first}
 use Rattle.sheet.specs.Text.{word, bytes}
 use Rattle.sheet.specs.declared.Mark.{Mark}
 use Rattle.sheet.specs.declared.Mark.TheVariants.{Open, Close, Plus, Minus, Times, Square, AtMost, Below, AtLeast, Above, Equal, Differ}
 use Rattle.sheet.specs.declared.Mark.TheVariants.{Range, Must, If, Then, And, Or}
-use Rattle.sheet.specs.declared.Value.{Value}
-use Rattle.sheet.specs.declared.Value.TheVariants.{Is, Not}
 use Rattle.sheet.specs.declared.Token.{Token}
 use Rattle.sheet.specs.declared.Token.TheVariants.{Number, Negative, Name, Fixed, Bad}
 
@@ -25,14 +23,18 @@ is_digit b = leb (word "0") b && leb b (word "9")
 abbrev pub unit_of : ℕ → ℕ
 unit_of b = cond (eqb b (word "K")) 1_024 (cond (eqb b (word "M")) (1_024 * 1_024) (cond (eqb b (word "G")) (1_024 * 1_024 * 1_024) 0))
 
+-- a number's value, or none where it has none
+abbrev pub Value : Type 0
+Value = Option ℕ
+
 -- the value is at most M = 10^12
 abbrev pub limited : ℕ → Value
-limited v = cond (leb v 1_000_000_000_000) (Is v) Not
+limited v = cond (leb v 1_000_000_000_000) (Some v) None
 
 -- a unit at the end
 unfoldable pub suffix_of : ℕ → ℕ → List ℕ → Value
-suffix_of v b [] = cond (eqb (unit_of b) 0) Not (limited (v * unit_of b))
-suffix_of v b (x ∷ xs) = Not
+suffix_of v b [] = cond (eqb (unit_of b) 0) None (limited (v * unit_of b))
+suffix_of v b (x ∷ xs) = None
 
 -- what further digits, and a unit, make of the value of the digits before them
 unfoldable pub digits_of : ℕ → List ℕ → Value
@@ -46,18 +48,18 @@ digit_first (b ∷ bs) = is_digit b
 
 -- the value of a piece that is a number
 unfoldable pub number_of : List ℕ → Value
-number_of [] = Not
-number_of (b ∷ bs) = cond (is_digit b) (cond (eqb b (word "0") && digit_first bs) Not (digits_of (b - word "0") bs)) Not
+number_of [] = None
+number_of (b ∷ bs) = cond (is_digit b) (cond (eqb b (word "0") && digit_first bs) None (digits_of (b - word "0") bs)) None
 
 abbrev pub as_number : Value → Token
-as_number (Is v) = Number v
-as_number Not = Bad
+as_number (Some v) = Number v
+as_number None = Bad
 
 -- `-` directly before the digits, not with the value 0
 abbrev pub as_negative : Value → Token
-as_negative (Is zero) = Bad
-as_negative (Is (suc v)) = Negative (suc v)
-as_negative Not = Bad
+as_negative (Some zero) = Bad
+as_negative (Some (suc v)) = Negative (suc v)
+as_negative None = Bad
 
 -- ---- names and marks: the bytes of a piece as one number, to the base 256
 unfoldable pub key_of : ℕ → List ℕ → ℕ

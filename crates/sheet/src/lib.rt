@@ -18,7 +18,7 @@ pub struct Stretch {
 }
 
 // The fixed marks: ( ) + - * ^2 <= < >= > = != range must if then and or
-#[derive(Clone, Copy)]
+#[derive(Clone, Copy, PartialEq, Eq)]
 pub enum Mark {
     Open,
     Close,
@@ -40,15 +40,8 @@ pub enum Mark {
     Or,
 }
 
-// A number's value, or that it is none.
-#[derive(Clone, Copy)]
-pub enum Value {
-    Is(u64),
-    Not,
-}
-
 // A number with its value, a number below 0 with its size, a name with its letters as one number, a fixed mark; or no token.
-#[derive(Clone, Copy)]
+#[derive(Clone, Copy, PartialEq, Eq)]
 pub enum Token {
     Number(u64),
     Negative(u64),
@@ -65,7 +58,7 @@ pub struct Step {
 }
 
 // How a comparison compares: <= < >= > = !=
-#[derive(Clone, Copy)]
+#[derive(Clone, Copy, PartialEq, Eq)]
 pub enum Sign {
     AtMost,
     Below,
@@ -75,36 +68,31 @@ pub enum Sign {
     Differ,
 }
 
-// What a range line declares: a name without a range, or with one; or that it is none.
+// What a range line declares: a name without a range, or with one.
 #[derive(Clone, Copy)]
 pub enum Declaration {
     Plain { name: u64 },
     Ranged { name: u64, low: i64, high: i64 },
-    No,
 }
 
 // Where line `line` of a text stands, without its LF; for line 0 or a missing line, the empty stretch at the text's end.
 pub fn line_span(text: &[u8], line: usize) -> Stretch
     ensures { result ≡ span_of text.now line }
 {
-    let size = text.len();
     let none = Stretch {
-        start: size,
-        end: size,
+        start: text.len(),
+        end: text.len(),
     };
-    if line == 0 {
-        return none;
-    }
-    let mut left = line;
-    let mut at: usize = 0;
-    while at < text.len() {
-        let e = line::line_end(text, at);
-        let next = e + 1;
-        if left == 1 {
-            return Stretch { start: at, end: e };
+    let mut start: usize = 0;
+    for earlier in 0..line {
+        if text.len() <= start {
+            return none;
         }
-        left -= 1;
-        at = next;
+        let end = line::line_end(text, start);
+        if earlier + 1 == line {
+            return Stretch { start, end };
+        }
+        start = end + 1;
     }
     none
 }
@@ -113,8 +101,6 @@ pub fn line_span(text: &[u8], line: usize) -> Stretch
 pub fn line_at(text: &[u8], line: usize) -> &[u8]
     ensures { IsLineOf text.entry line result }
 {
-    let s = line_span(text, line);
-    let start = s.start;
-    let end = s.end;
+    let Stretch { start, end } = line_span(text, line);
     &text[start..end]
 }

@@ -6,14 +6,10 @@ ghost use Rattle.sheet.specs.inner.Places.{place_of};
 pub fn place(text: &[u8], at: usize, m: u8) -> usize
     ensures { result ≡ place_of m text.now at }
 {
-    let mut i = at;
-    while i < text.len() {
-        if text[i] == m {
-            return i;
-        }
-        i += 1;
-    }
-    i
+    let Some(rest) = text.get(at..) else {
+        return at;
+    };
+    at + rest.iter().position(|b| *b == m).unwrap_or(rest.len())
 }
 
 // Inner: where the line that starts at `at` ends: at the next LF, or at the text's end.

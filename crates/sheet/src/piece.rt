@@ -1,107 +1,85 @@
 // A piece of a line as a number, a mark or a name.
-ghost use Rattle.std.specs.Prelude.{◌≡◌, ◌≤◌, ◌<◌, ◌*◌, length, drop};
-ghost use Rattle.sheet.specs.Tokens.{is_digit, unit_of, limited, digits_of, digit_first, number_of, key_of, all_lower, mark_of, word_of, minus_first};
+ghost use Rattle.std.specs.Prelude.{◌≡◌, ◌≤◌, ◌<◌, ◌*◌, length, drop, MatchOption};
+ghost use Rattle.sheet.specs.Tokens.{unit_of, limited, digits_of, digit_first, number_of, key_of, all_lower, mark_of, word_of, minus_first};
+ghost use Rattle.sheet.specs.declared.Token.TheVariants.{Fixed, Bad};
 
-use crate::{Mark, Token, Value};
+use crate::{Mark, Token};
 
 // The largest value of a number: M.
 const TOP: u64 = 1_000_000_000_000;
 
-// A byte as a wide number.
-fn wide(b: u8) -> u64
-    ensures { result ≡ b }
-{
-    b as u64
-}
-
-// Whether a byte is a digit.
-fn digit(b: u8) -> bool
-    ensures { result ≡ is_digit b }
-{
-    b'0' <= b && b <= b'9'
-}
-
-// What K, M or G stands for: 1,024, its square or its cube; 0 for any other byte.
-fn unit(b: u8) -> u64
-    ensures { result ≡ unit_of b }
+// What K, M or G stands for: 1,024, its square or its cube; any other byte is no unit.
+fn unit(b: u8) -> Option<u64>
+    ensures { MatchOption result (unit_of b ≡ 0) (λ u. (u ≡ unit_of b) × (0 < u)) }
 {
     match b {
-        b'K' => 1_024,
-        b'M' => 1_048_576,
-        b'G' => 1_073_741_824,
-        _ => 0,
+        b'K' => Some(1_024),
+        b'M' => Some(1_048_576),
+        b'G' => Some(1_073_741_824),
+        _ => None,
     }
 }
 
 // A value times a unit, if that is at most M.
-fn scaled(v: u64, u: u64) -> Value
-    requires { 0 < u }
+fn scaled(v: u64, u: u64) -> Option<u64>
     ensures { result ≡ limited (v * u) }
 {
-    if v <= TOP / u {
-        Value::Is(v * u)
-    } else {
-        Value::Not
-    }
+    v.checked_mul(u).filter(|n| *n <= TOP)
 }
 
-// What further digits from a place on, and a unit, make of the value of the digits before them.
-fn digits(w: &[u8], from: usize, first: u64) -> Value
-    requires { (from ≤ length w.now) × (first ≤ 9) }
-    ensures { result ≡ digits_of first (drop from w.now) }
+// What further digits, and a unit, make of the value of the digits before them.
+fn digits(more: &[u8], first: u64) -> Option<u64>
+    requires { first ≤ 9 }
+    ensures { result ≡ digits_of first more.now }
 {
     let mut v = first;
-    let mut i = from;
-    while i < w.len() {
-        let b = w[i];
-        if !digit(b) {
-            let u = unit(b);
-            if u == 0 {
-                return Value::Not;
-            }
-            if i + 1 < w.len() {
-                return Value::Not;
+    for (i, b) in more.iter().enumerate() {
+        if !b.is_ascii_digit() {
+            let u = unit(*b)?;
+            if i + 1 < more.len() {
+                return None;
             }
             return scaled(v, u);
         }
-        v = v * 10 + wide(b - b'0');
+        v = v * 10 + u64::from(*b - b'0');
         if TOP < v {
-            return Value::Not;
+            return None;
         }
-        i += 1;
     }
-    Value::Is(v)
+    Some(v)
 }
 
 // Inner: whether a digit stands at a place.
 pub fn digit_at(w: &[u8], i: usize) -> bool
     ensures { result ≡ digit_first (drop i w.now) }
 {
-    if i < w.len() { digit(w[i]) } else { false }
+    w.get(i).is_some_and(|b| b.is_ascii_digit())
 }
 
 // Inner: whether a piece is `-` and a digit behind it first.
 pub fn minus_first(w: &[u8]) -> bool
     ensures { result ≡ minus_first w.now }
 {
-    if w.len() == 0 {
+    let [first, more @ ..] = w else {
         return false;
-    }
-    if w[0] == b'-' { digit_at(w, 1) } else { false }
+    };
+    *first == b'-' && digit_at(more, 0)
 }
 
 // Inner: the value of a piece that is a number.
-pub fn number(w: &[u8]) -> Value
+pub fn number(w: &[u8]) -> Option<u64>
     ensures { result ≡ number_of w.now }
 {
-    if !digit_at(w, 0) {
-        return Value::Not;
+    let [first, more @ ..] = w else {
+        return None;
+    };
+    if !first.is_ascii_digit() {
+        return None;
     }
-    let b = w[0];
-    if b == b'0' && digit_at(w, 1) {
-        return Value::Not;
+    if *first == b'0' && digit_at(more, 0) {
+        return None;
     }
-    digits(w, 1, wide(b - b'0'))
+    digits(more, u64::from(*first - b'0'))
 }
 
 // The bytes of a piece of at most eight as one number, to the base 256.
@@ -110,10 +88,8 @@ fn key(w: &[u8]) -> u64
     ensures { result ≡ key_of 0 w.now }
 {
     let mut k: u64 = 0;
-    let mut i: usize = 0;
-    while i < w.len() {
-        k = k * 256 + wide(w[i]);
-        i += 1;
+    for b in w {
+        k = k * 256 + u64::from(*b);
     }
     k
 }
@@ -122,44 +98,34 @@ fn key(w: &[u8]) -> u64
 fn lower(w: &[u8]) -> bool
     ensures { result ≡ all_lower w.now }
 {
-    let mut i: usize = 0;
-    while i < w.len() {
-        let b = w[i];
-        if b < b'a' {
-            return false;
-        }
-        if b'z' < b {
-            return false;
-        }
-        i += 1;
-    }
-    true
+    w.iter().all(|b| b.is_ascii_lowercase())
 }
 
-// The mark whose bytes make this number.
-fn fixed(k: u64) -> Token
-    ensures { result ≡ mark_of k }
+// The mark whose bytes make this number, if one is.
+#[tactic(auto, unfolding(crate::specs::Tokens::mark_of))]
+fn fixed(k: u64) -> Option<Mark>
+    ensures { MatchOption result (mark_of k ≡ Bad) (λ m. mark_of k ≡ Fixed m) }
 {
     match k {
-        40 => Token::Fixed(Mark::Open),
-        41 => Token::Fixed(Mark::Close),
-        43 => Token::Fixed(Mark::Plus),
-        45 => Token::Fixed(Mark::Minus),
-        42 => Token::Fixed(Mark::Times),
-        24114 => Token::Fixed(Mark::Square),
-        15421 => Token::Fixed(Mark::AtMost),
-        60 => Token::Fixed(Mark::Below),
-        15933 => Token::Fixed(Mark::AtLeast),
-        62 => Token::Fixed(Mark::Above),
-        61 => Token::Fixed(Mark::Equal),
-        8509 => Token::Fixed(Mark::Differ),
-        491260897125 => Token::Fixed(Mark::Range),
-        1836413812 => Token::Fixed(Mark::Must),
-        26982 => Token::Fixed(Mark::If),
-        1952998766 => Token::Fixed(Mark::Then),
-        6385252 => Token::Fixed(Mark::And),
-        28530 => Token::Fixed(Mark::Or),
-        _ => Token::Bad,
+        40 => Some(Mark::Open),
+        41 => Some(Mark::Close),
+        43 => Some(Mark::Plus),
+        45 => Some(Mark::Minus),
+        42 => Some(Mark::Times),
+        24114 => Some(Mark::Square),
+        15421 => Some(Mark::AtMost),
+        60 => Some(Mark::Below),
+        15933 => Some(Mark::AtLeast),
+        62 => Some(Mark::Above),
+        61 => Some(Mark::Equal),
+        8509 => Some(Mark::Differ),
+        491260897125 => Some(Mark::Range),
+        1836413812 => Some(Mark::Must),
+        26982 => Some(Mark::If),
+        1952998766 => Some(Mark::Then),
+        6385252 => Some(Mark::And),
+        28530 => Some(Mark::Or),
+        _ => None,
     }
 }
 
@@ -171,12 +137,12 @@ pub fn word(w: &[u8]) -> Token
         return Token::Bad;
     }
     let k = key(w);
-    let m = fixed(k);
-    let Token::Bad = m else {
-        return m;
-    };
-    if w.len() == 0 {
-        return Token::Bad;
+    if let Some(mark) = fixed(k) {
+        return Token::Fixed(mark);
     }
-    if lower(w) { Token::Name(k) } else { Token::Bad }
+    if !w.is_empty() && lower(w) {
+        Token::Name(k)
+    } else {
+        Token::Bad
+    }
 }

@@ -1,36 +1,27 @@
 // The tokens of a line, one after the other by their place.
 ghost use Rattle.std.specs.Prelude.{◌≡◌};
 ghost use Rattle.sheet.specs.Tokens.{as_number, as_negative, token_of};
-ghost use Rattle.sheet.specs.Reading.{token_no, head_of, rest_of};
-ghost use Rattle.sheet.specs.declared.Token.TheVariants.{Fixed};
+ghost use Rattle.sheet.specs.Reading.{head_of, rest_of};
 ghost use Rattle.sheet.specs.inner.Steps.{step_at, tokens_from};
 
 use crate::line::place;
 use crate::piece::{digit_at, minus_first, number, word};
-use crate::{Mark, Step, Token, Value};
+use crate::{Step, Token};
 
 // A number's value as a token.
-fn positive(v: Value) -> Token
+fn positive(v: Option<u64>) -> Token
     ensures { result ≡ as_number v }
 {
-    match v {
-        Value::Is(n) => Token::Number(n),
-        Value::Not => Token::Bad,
-    }
+    v.map_or(Token::Bad, Token::Number)
 }
 
 // The value behind `-` as a token; with the value 0 there is none.
-fn negative(v: Value) -> Token
+fn negative(v: Option<u64>) -> Token
     ensures { result ≡ as_negative v }
 {
     match v {
-        Value::Is(n) => {
-            if n == 0 {
-                return Token::Bad;
-            }
-            Token::Negative(n)
-        }
-        Value::Not => Token::Bad,
+        None | Some(0) => Token::Bad,
+        Some(n) => Token::Negative(n),
     }
 }
 
@@ -57,11 +48,10 @@ pub fn step_at(line: &[u8], at: usize) -> Step
             next: at,
         };
     }
-    let e = place(line, at, b' ');
-    let t = read(&line[at..e]);
+    let end = place(line, at, b' ');
     Step {
-        token: t,
-        next: e + 1,
+        token: read(&line[at..end]),
+        next: end + 1,
     }
 }
 
@@ -70,43 +60,4 @@ pub fn next(line: &[u8], at: usize) -> Step
     ensures { (result.token ≡ head_of (tokens_from line.now at)) × (tokens_from line.now result.next ≡ rest_of (tokens_from line.now at)) × (result ≡ step_at line.now at) }
 {
     step_at(line, at)
-}
-
-// A mark's number.
-fn mark_kind(m: Mark) -> u8
-    ensures { result ≡ token_no (Fixed m) }
-{
-    match m {
-        Mark::Open => 4,
-        Mark::Close => 5,
-        Mark::Plus => 6,
-        Mark::Minus => 7,
-        Mark::Times => 8,
-        Mark::Square => 9,
-        Mark::AtMost => 10,
-        Mark::Below => 11,
-        Mark::AtLeast => 12,
-        Mark::Above => 13,
-        Mark::Equal => 14,
-        Mark::Differ => 15,
-        Mark::Range => 16,
-        Mark::Must => 17,
-        Mark::If => 18,
-        Mark::Then => 19,
-        Mark::And => 20,
-        Mark::Or => 21,
-    }
-}
-
-// Inner: a token's number: 0 for none, 1 a number, 2 a name, 3 a negative number, and from 4 on the marks.
-pub fn kind(t: Token) -> u8
-    ensures { result ≡ token_no t }
-{
-    match t {
-        Token::Number(_) => 1,
-        Token::Name(_) => 2,
-        Token::Negative(_) => 3,
-        Token::Fixed(m) => mark_kind(m),
-        Token::Bad => 0,
-    }
 }

@@ -1,4 +1,5 @@
 -- The contract read back: an accepted answer comes from a sheet that was read, whose lists stand at the fronts, as far as the counts say.
+use Rattle.std.specs.Prelude.{Result, Ok}
 use mathlib.Core.Path.{◌≡◌, refl, sym, ap, ◌∙◌}
 use mathlib.Core.Bool.{Bool, true, false, cond}
 use mathlib.Core.List.{List, ◌++◌}
@@ -16,8 +17,7 @@ use Rattle.meaning.proofs.Promises.{fits}
 use Rattle.translate.specs.Translate.{judged, counts_of, result_of, filled, into, Translates}
 use Rattle.translate.specs.Meaning.{range_front, primitive_front, length_front, literal_front, name_front}
 use Rattle.translate.specs.declared.Counts.{Counts}
-use Rattle.translate.specs.declared.Translated.{Translated}
-use Rattle.translate.specs.declared.Translated.TheVariants.{Accepted}
+use Rattle.translate.specs.declared.Refused.{Refused}
 
 -- the counts and the fronts of the lists are those of the sheet that was read
 pub record Taken (t : List ℕ) (c : Counts) (rs ps ns ls : List ℤ) (bytes : List ℕ) : Type 0 where
@@ -50,19 +50,19 @@ module _ (t : List ℕ) (rs₀ ps₀ ns₀ ls₀ : List ℤ) (bytes₀ : List �
     judged_so : judged t rs₀ ps₀ ns₀ ls₀ bytes₀ ≡ read draft
     counts : c ≡ counts_of draft
 
-  origin : Accepted c ≡ result_of (judged t rs₀ ps₀ ns₀ ls₀ bytes₀) → Origin
+  origin : Ok c ≡ result_of (judged t rs₀ ps₀ ns₀ ls₀ bytes₀) → Origin
   unfolding judged
   origin = by (short_lists rs₀ ps₀ ns₀ ls₀ bytes₀) refl
     where
-      at : (o : Outcome) → outcome_of t ≡ o → short_lists rs₀ ps₀ ns₀ ls₀ bytes₀ ≡ false → Accepted c ≡ result_of o → Origin
+      at : (o : Outcome) → outcome_of t ≡ o → short_lists rs₀ ps₀ ns₀ ls₀ bytes₀ ≡ false → Ok c ≡ result_of o → Origin
       at (refused g k) i f e = absurd (let z : ◌≡◌ {A = ℕ} 0 1 = cc in omega arith)
       at (read s) i f e = record { draft = s; is = i; judged_so = rw (f, i); counts = cc }
 
-      by : (b : Bool) → short_lists rs₀ ps₀ ns₀ ls₀ bytes₀ ≡ b → Accepted c ≡ result_of (cond b (refused refusal.Lists 0) (outcome_of t)) → Origin
+      by : (b : Bool) → short_lists rs₀ ps₀ ns₀ ls₀ bytes₀ ≡ b → Ok c ≡ result_of (cond b (refused refusal.Lists 0) (outcome_of t)) → Origin
       by true f e = absurd (let z : ◌≡◌ {A = ℕ} 0 1 = cc in omega arith)
       by false f e = at (outcome_of t) refl f e
 
-  module _ (rs ps ns ls : List ℤ) (bytes : List ℕ) (r : Translated) (h : Translates t rs₀ ps₀ ns₀ ls₀ bytes₀ rs ps ns ls bytes r) (so : r ≡ Accepted c) where
+  module _ (rs ps ns ls : List ℤ) (bytes : List ℕ) (r : Result Counts Refused) (h : Translates t rs₀ ps₀ ns₀ ls₀ bytes₀ rs ps ns ls bytes r) (so : r ≡ Ok c) where
     from : Origin
     from = origin (sym so ∙ h.result)
 

@@ -1,4 +1,5 @@
 -- What the answer means: an accepted one by demand 3 of the sheet whose lists stand at the fronts, a refused one by the sheet's ground, or 19 before it.
+use Rattle.std.specs.Prelude.{Err}
 use mathlib.Core.Path.{◌≡◌, refl, sym, ap, ◌∙◌}
 use mathlib.Core.Bool.{Bool, true, false, cond}
 use mathlib.Core.List.{List}
@@ -13,7 +14,7 @@ use Rattle.meaning.proofs.Promises.{grounds, grounds_back, demand3, fits, accept
 use Rattle.translate.specs.Translate.{judged, result_of, Translates}
 use Rattle.translate.specs.Meaning.{RefusedFor, lists, sheet, Translation}
 use Rattle.translate.specs.declared.Counts.{Counts}
-use Rattle.translate.specs.declared.Translated.TheVariants.{Refused}
+use Rattle.translate.specs.declared.Refused.{Refused}
 use Rattle.translate.proofs.AcceptedFronts.{Taken}
 
 -- ---- accepted
@@ -34,13 +35,14 @@ translation t c rs ps ns ls bytes h =
 -- ---- refused
 module _ (t : List ℕ) (rs ps ns ls : List ℤ) (bytes : List ℕ) where
   -- the outcome of a refusal
-  refused_judged : (g : Refusal) (k : ℕ) → Refused g k ≡ result_of (judged t rs ps ns ls bytes) → judged t rs ps ns ls bytes ≡ refused g k
+  refused_judged : (g : Refusal) (k : ℕ) → Err (record { refusal = g; line = k }) ≡ result_of (judged t rs ps ns ls bytes) → judged t rs ps ns ls bytes ≡ refused g k
   refused_judged g k e = by (judged t rs ps ns ls bytes) refl e
     where
-      by : (o : Outcome) → judged t rs ps ns ls bytes ≡ o → Refused g k ≡ result_of o → judged t rs ps ns ls bytes ≡ refused g k
+      by : (o : Outcome) → judged t rs ps ns ls bytes ≡ o → Err (record { refusal = g; line = k }) ≡ result_of o → judged t rs ps ns ls bytes ≡ refused g k
       by (refused h j) i f =
-          let a : h ≡ g = cc in
-          let b : j ≡ k = cc in
+          let e : ◌≡◌ {A = Refused} (record { refusal = g; line = k }) (record { refusal = h; line = j }) = cc in
+          let a : h ≡ g = sym (ap (λ (x : Refused). x.refusal) e) in
+          let b : j ≡ k = sym (ap (λ (x : Refused). x.line) e) in
           i ∙ rw (a, b)
       by (read s) i f = absurd (let z : ◌≡◌ {A = ℕ} 0 1 = cc in omega arith)
 
@@ -61,7 +63,7 @@ module _ (t : List ℕ) (rs ps ns ls : List ℤ) (bytes : List ℕ) where
   for_refused n k (sheet s r) = let b = grounds_back t n k r in (b.0, b.1, rw s b.2)
 
 module _ (t : List ℕ) (rs₀ ps₀ ns₀ ls₀ : List ℤ) (bytes₀ : List ℕ) (rs ps ns ls : List ℤ) (bytes : List ℕ) (g : Refusal) (k : ℕ) where
-  pub refused_right : Translates t rs₀ ps₀ ns₀ ls₀ bytes₀ rs ps ns ls bytes (Refused g k) → RefusedFor t rs₀ ps₀ ns₀ ls₀ bytes₀ (refusal_number g) k × (rs ≡ rs₀) × (ps ≡ ps₀) × (ns ≡ ns₀) × (ls ≡ ls₀) × (bytes ≡ bytes₀)
+  pub refused_right : Translates t rs₀ ps₀ ns₀ ls₀ bytes₀ rs ps ns ls bytes (Err (record { refusal = g; line = k })) → RefusedFor t rs₀ ps₀ ns₀ ls₀ bytes₀ (refusal_number g) k × (rs ≡ rs₀) × (ps ≡ ps₀) × (ns ≡ ns₀) × (ls ≡ ls₀) × (bytes ≡ bytes₀)
   refused_right h =
       let j = refused_judged t rs₀ ps₀ ns₀ ls₀ bytes₀ g k h.result in (
         refused_for t rs₀ ps₀ ns₀ ls₀ bytes₀ g k j,

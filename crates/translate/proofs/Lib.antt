@@ -2,6 +2,7 @@
 
 -- what the code comes to, from the first bytes to the caller's lists
 pub mod BadBytes
+pub mod EndedLines
 pub mod VersionLine
 pub mod WalkCode
 pub mod NamesWritten

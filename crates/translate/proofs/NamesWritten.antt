@@ -4,8 +4,8 @@ use mathlib.Core.List.{List, [], ◌∷◌, ◌++◌, append_assoc, append-nil}
 use Prim.Native.Nat.{ℕ, zero, suc, ◌+◌, ◌-◌, ◌*◌, ◌/◌, ◌%◌, ◌≤◌, ◌<◌}
 use native.Mathlib.Numerals.{add-one}
 use native.Mathlib.Omega.{arith}
-use lib.ListN.{length, get_or, take, drop, set, replicate, length-append, drop_of_length-le}
-use lib.Seq.{length-take-le, drop-drop, take-suc, take_all, take_at, drop_at}
+use lib.ListN.{length, get_or, take, drop, set, length-append}
+use lib.Seq.{length-take-le, drop-drop, take-suc, take_at, drop_at}
 use borrow.Author.Tests.{ne_eqb}
 use borrow.Rule.Slice.PartMut.{put_mid}
 use Rattle.meaning.specs.Lists.{letters_of, padded, name_bytes}
@@ -52,16 +52,6 @@ letters_more k (suc f) old new n m z h l =
       slot = rw (letters_step k f z, q.slot) (fill_next w old n (k % 256) 0 q.count short);
     }
 
--- a name in a slot of spaces
-pub pad_is : (k : ℕ) (spaces new : List ℕ) (n : ℕ) → spaces ≡ replicate 8 32 → Letters k 8 spaces new n → new ≡ padded k
-pad_is k spaces new n e l =
-    l.slot ∙ ap (λ (s : List ℕ). letters_of 8 k ++ drop (length (letters_of 8 k)) s) e ∙ ap (λ (s : List ℕ). letters_of 8 k ++ s) (drop_replicate (length (letters_of 8 k)) 8 32)
-  where
-    drop_replicate : (n m v : ℕ) → drop n (replicate m v) ≡ replicate (m - n) v
-    drop_replicate zero m v = let z : m - 0 ≡ m = omega arith in rw z
-    drop_replicate (suc n) zero v = let z : 0 - suc n ≡ 0 = omega arith in rw z
-    drop_replicate (suc n) (suc m) v = let z : suc m - suc n ≡ m - n = omega arith in rw z (drop_replicate n m v)
-
 -- ---- one name more
 module _ (keys names : List ℕ) (i : ℕ) (h : i < length keys) (fits : 8 * length keys ≤ length names) where
   pub names_next : (l new : List ℕ) (a e : ℕ) → a ≡ 8 * i → e ≡ a + 8 → l ≡ filled (name_bytes (take i keys)) names → new ≡ padded (get_or keys i 0) → put_mid a (e - a) l new ≡ filled (name_bytes (take (i + 1) keys)) names
@@ -73,13 +63,6 @@ module _ (keys names : List ℕ) (i : ℕ) (h : i < length keys) (fits : 8 * len
       ap name_bytes m ∙ names_append (take i keys) (get_or keys i 0 ∷ []) ∙ ap (λ (x : List ℕ). name_bytes (take i keys) ++ x) (append-nil (padded (get_or keys i 0))) in
       rw (r, s, w) (fill_part (name_bytes (take i keys)) (padded (get_or keys i 0)) names a e (p ∙ sym n) (q ∙ ap (λ (k : ℕ). a + k) (sym (padded_length (get_or keys i 0)))))
 
--- one value all over
-pub fill_all : (n v : ℕ) (d : List ℕ) → n ≡ length d → replicate n v ++ drop n d ≡ replicate (length d) v
-fill_all n v d e = rw (e, drop_of_length-le d {i = length d} (omega arith)) (append-nil _)
-
 pub names_none : (names : List ℕ) → names ≡ filled (name_bytes []) names
 unfolding name_bytes
 names_none names = refl
-
-pub names_done : (keys names : List ℕ) (i : ℕ) → length keys ≡ i → filled (name_bytes (take i keys)) names ≡ filled (name_bytes keys) names
-names_done keys names i e = ap (λ (l : List ℕ). filled (name_bytes l) names) (take_all i keys (omega arith))

@@ -1,23 +1,23 @@
 -- The walk through the lines: some sheet is held, and the lines from here on make of it what all lines make of the blank one. Each line goes on with the sheet that
 -- it makes, or decides by its fault; past the last line the sheet held is the outcome.
+use Rattle.std.specs.Prelude.{Result, Ok, Err, MatchResult, IsErrAnd}
 use mathlib.Core.Path.{◌≡◌, refl, ap, ◌∙◌}
 use mathlib.Core.Bool.{false}
 use mathlib.Core.List.{List, [], ◌∷◌}
-use Prim.Native.Nat.{ℕ, suc, ◌+◌, ◌-◌, ◌≤◌, ◌<◌}
-use native.Mathlib.Numerals.{add-one}
+use Prim.Native.Nat.{ℕ, suc, ◌+◌, ◌≤◌}
 use native.Mathlib.Omega.{arith}
 use lib.IntN.{ℤ}
-use lib.ListN.{length, take, drop}
+use lib.ListN.{length}
 use Rattle.sheet.specs.Lines.{lines_of}
-use Rattle.sheet.specs.inner.Places.{place_of}
-use Rattle.sheet.proofs.Lines.{lines_at, lines_end}
+use Rattle.std.proofs.lemmas.List.{nil_from_length}
+use Rattle.sheet.proofs.Lines as lines
 use Rattle.meaning.specs.Lists.{range_list, primitive_list, length_list, literals_in, literal_list}
 use Rattle.meaning.specs.Draft.{Draft, blank}
 use Rattle.meaning.specs.Grounds.{Outcome, refused, read, top_of, one_line, read_lines}
 use Rattle.meaning.specs.declared.Refusal.{Refusal}
 use Rattle.lines.specs.declared.parts.Progress.{Progress}
-use Rattle.lines.specs.declared.parts.Lined.{Lined}
-use Rattle.lines.specs.declared.parts.Lined.TheVariants.{Next, Refused}
+use Rattle.translate.specs.declared.Refused.{Refused}
+use Rattle.translate.proofs.EndedLines.{Ended}
 use Rattle.lines.specs.inner.Stored.{Stored, Proper, Full, Standing, Holds, LineSays, Answers, line_by}
 
 -- ---- lines in a row
@@ -29,6 +29,9 @@ module _ (top k : ℕ) (s : Draft) (l : List ℕ) (ls : List (List ℕ)) where
   lines_fault : (g : Refusal) (j : ℕ) → one_line top s k l ≡ refused g j → read_lines top k s (l ∷ ls) ≡ refused g j
   unfolding read_lines
   lines_fault g j e = rw (e, read_lines)
+
+no_lines : lines_of [] ≡ []
+no_lines = lines.lines_none
 
 lines_none : (top k : ℕ) (s : Draft) → read_lines top k s [] ≡ read s
 unfolding read_lines
@@ -63,54 +66,65 @@ unfolding literals_in
 proper_blank = record { good = tt; primitives = omega arith; clauses = omega arith; literals = omega arith; unruled = λ e. refl }
 
 -- ---- a step of the walk
--- what the lines from a place on make of the blank sheet
-abbrev pub outcome_from : ℕ → List ℕ → ℕ → Outcome
-outcome_from version text from = read_lines (top_of version) 2 blank (lines_of (drop from text))
+-- what the lines of a text make of the blank sheet
+abbrev pub outcome_from : ℕ → List ℕ → Outcome
+outcome_from version text = read_lines (top_of version) 2 blank (lines_of text)
 
-pub record Walking (version : ℕ) (text : List ℕ) (from : ℕ) (rs ps ns ls : List ℤ) (keys : List ℕ) (g : Progress) (at line : ℕ) : Type 0 where
+-- n lines are read, and these bytes are left
+pub record Walking (version : ℕ) (text : List ℕ) (rs ps ns ls : List ℤ) (keys : List ℕ) (g : Progress) (n : ℕ) (rest : List ℕ) : Type 0 where
   pub standing : Standing g rs ps ns ls keys
-  pub same : outcome_from version text from ≡ read_lines (top_of version) line standing.draft (lines_of (drop at text))
-  pub number : line ≤ at + 2
+  pub same : outcome_from version text ≡ read_lines (top_of version) (n + 2) standing.draft (lines_of rest)
+  pub number : n + length rest ≤ length text
 
-pub walk_start : (version : ℕ) (text : List ℕ) (from : ℕ) (rs ps ns ls : List ℤ) (keys : List ℕ) → Full rs ps ns ls keys → Walking version text from rs ps ns ls keys unread from 2
-walk_start version text from rs ps ns ls keys f =
-    record { standing = record { draft = blank; stored = stored_blank rs ps ns ls keys; proper = proper_blank; full = f }; same = refl; number = omega arith }
+pub walk_start : (version : ℕ) (text : List ℕ) (rs ps ns ls : List ℤ) (keys : List ℕ) (n : ℕ) (rest : List ℕ) → Full rs ps ns ls keys → n ≡ 0 → rest ≡ text → Walking version text rs ps ns ls keys unread n rest
+walk_start version text rs ps ns ls keys n rest f z e =
+    rw (z, e) (record { standing = record { draft = blank; stored = stored_blank rs ps ns ls keys; proper = proper_blank; full = f }; same = refl; number = omega arith })
 
-module _ {version : ℕ} {text : List ℕ} {from : ℕ} {rs ps ns ls : List ℤ} {keys : List ℕ} {g : Progress} {at line : ℕ} (w : Walking version text from rs ps ns ls keys g at line) where
-  pub walk_done : length text ≤ at → Holds (outcome_from version text from) g rs ps ns ls keys
+module _ {version : ℕ} {text : List ℕ} {rs ps ns ls : List ℤ} {keys : List ℕ} {g : Progress} {n : ℕ} {rest : List ℕ} (w : Walking version text rs ps ns ls keys g n rest) where
+  pub walk_done : length rest ≡ 0 → Holds (outcome_from version text) g rs ps ns ls keys
   walk_done h =
       let s = w.standing.draft in
       record {
         draft = s;
-        outcome = w.same ∙ ap (read_lines (top_of version) line s) (lines_end text at h) ∙ lines_none (top_of version) line s;
+        outcome = w.same ∙ ap (λ (x : List ℕ). read_lines (top_of version) (n + 2) s (lines_of x)) (nil_from_length rest h) ∙ ap (read_lines (top_of version) (n + 2) s) no_lines ∙ lines_none (top_of version) (n + 2) s;
         stored = w.standing.stored;
         proper = w.standing.proper;
       }
 
-  -- the lines from here on are the line at this place, and those behind it
-  module _ (h : at < length text) (end : ℕ) (e : end ≡ place_of 10 text at) where
-    here : outcome_from version text from ≡ read_lines (top_of version) line w.standing.draft (take (end - at) (drop at text) ∷ lines_of (drop (end + 1) text))
-    here = w.same ∙ rw e (ap (read_lines (top_of version) line w.standing.draft) (lines_at text at h))
+  -- the lines that are left are this one, and those of the bytes behind it
+  module _ (line back : List ℕ) (split : Ended rest line back) where
+    here : outcome_from version text ≡ read_lines (top_of version) (n + 2) w.standing.draft (line ∷ lines_of back)
+    here = w.same ∙ ap (read_lines (top_of version) (n + 2) w.standing.draft) split.lines
 
-    module _ {rs' ps' ns' ls' : List ℤ} {keys' : List ℕ} {r : Lined} (read : Answers (line_by version (take (end - at) (drop at text))) g rs ps ns ls keys rs' ps' ns' ls' keys' r) where
-      pub walk_fault : (refusal : Refusal) → r ≡ Refused refusal → outcome_from version text from ≡ refused refusal line
-      walk_fault refusal d =
-          let says : LineSays line (one_line (top_of version) w.standing.draft line (take (end - at) (drop at text))) rs' ps' ns' ls' keys' (Refused refusal) =
-          rw d at (read.says w.standing.draft line w.standing.stored w.standing.proper) in
-          here ∙ lines_fault (top_of version) line w.standing.draft (take (end - at) (drop at text)) (lines_of (drop (end + 1) text)) refusal line says
+    module _ {rs' ps' ns' ls' : List ℤ} {keys' : List ℕ} {r : Result Progress Refusal} (read : Answers (line_by version line) g rs ps ns ls keys rs' ps' ns' ls' keys' r) where
+      says : LineSays (n + 2) (one_line (top_of version) w.standing.draft (n + 2) line) rs' ps' ns' ls' keys' r
+      says = read.says w.standing.draft (n + 2) w.standing.stored w.standing.proper
 
-      pub walk_next : (next : Progress) → r ≡ Next next → length rs' ≡ length rs → length ps' ≡ length ps → length ns' ≡ length ns → length ls' ≡ length ls → length keys' ≡ length keys → Walking version text from rs' ps' ns' ls' keys' next (end + 1) (line + 1)
-      walk_next next d er ep en el ek =
-          let f = w.standing.full in
-          let says : LineSays line (one_line (top_of version) w.standing.draft line (take (end - at) (drop at text))) rs' ps' ns' ls' keys' (Next next) =
-          rw d at (read.says w.standing.draft line w.standing.stored w.standing.proper) in
-          record {
-            standing = record {
-              draft = says.draft;
-              stored = says.stored;
-              proper = says.proper;
-              full = record { ranges = er ∙ f.ranges; primitives = ep ∙ f.primitives; lengths = en ∙ f.lengths; literals = el ∙ f.literals; names = ek ∙ f.names };
-            };
-            same = here ∙ rw (add-one line) (lines_next (top_of version) line w.standing.draft (take (end - at) (drop at text)) (lines_of (drop (end + 1) text)) says.draft says.outcome);
-            number = omega (arith, w.number);
-          }
+      -- a fault, with its line, is the answer to all lines
+      pub walk_decides : (m : Result Progress Refused) (P : Refusal → Refused → Type 0) → ((g : Refusal) (e : Refused) → P g e → e ≡ record { refusal = g; line = n + 2 }) → MatchResult r (λ x. m ≡ Ok x) (λ g. IsErrAnd m (P g)) → (e : Refused) → m ≡ Err e → outcome_from version text ≡ refused e.refusal e.line
+      walk_decides m P p d e i = by r refl d
+        where
+          by : (q : Result Progress Refusal) → r ≡ q → MatchResult q (λ x. m ≡ Ok x) (λ g. IsErrAnd m (P g)) → outcome_from version text ≡ refused e.refusal e.line
+          by (Ok x) j k = absurd (let z : ◌≡◌ {A = ℕ} 0 1 = cc in omega arith)
+          by (Err g) j k =
+              let f : e ≡ record { refusal = g; line = n + 2 } = p g e (rw i at k) in
+              rw f (here ∙ lines_fault (top_of version) (n + 2) w.standing.draft line (lines_of back) g (n + 2) (rw j at says))
+
+      -- without one the walk goes on
+      pub walk_holds : (m : Result Progress Refused) (P : Refusal → Refused → Type 0) → MatchResult r (λ x. m ≡ Ok x) (λ g. IsErrAnd m (P g)) → (next : Progress) → m ≡ Ok next → r ≡ Ok next
+      walk_holds m P d next i = by r refl d
+        where
+          by : (q : Result Progress Refusal) → r ≡ q → MatchResult q (λ x. m ≡ Ok x) (λ g. IsErrAnd m (P g)) → r ≡ Ok next
+          by (Ok x) j k = let h : x ≡ next = cc in j ∙ rw h
+          by (Err g) j k = absurd (rw i at k)
+
+      module _ (full : Full rs' ps' ns' ls' keys') where
+        pub walk_next : (next : Progress) → r ≡ Ok next → (m : ℕ) (left : List ℕ) → m ≡ n + 1 → left ≡ back → Walking version text rs' ps' ns' ls' keys' next m left
+        walk_next next d m left z e =
+            let held : LineSays (n + 2) (one_line (top_of version) w.standing.draft (n + 2) line) rs' ps' ns' ls' keys' (Ok next) = rw d at says in
+            let k : suc (n + 2) ≡ n + 1 + 2 = omega arith in
+            rw (z, e) (record {
+              standing = record { draft = held.draft; stored = held.stored; proper = held.proper; full = full };
+              same = here ∙ lines_next (top_of version) (n + 2) w.standing.draft line (lines_of back) held.draft held.outcome ∙ ap (λ (j : ℕ). read_lines (top_of version) j held.draft (lines_of back)) k;
+              number = omega (arith, w.number, split.shorter);
+            })

@@ -1,9 +1,8 @@
 -- What the answer of the public call means for the sheet: document 01, "Translation" and the table of a sheet's refusals.
-use Rattle.std.specs.Prelude.{◌≡◌, true, false, List, ℕ, ◌*◌, ℤ, pos, length, take}
+use Rattle.std.specs.Prelude.{◌≡◌, true, false, List, ℕ, ◌*◌, ℤ, pos, length, take, Ok}
 use Rattle.problem.specs.Lists.{problem_of}
 use Rattle.problem.specs.Grounds.{judge_of}
 use Rattle.problem.specs.Leading.{bad_leading}
-use Rattle.problem.specs.declared.Judged.TheVariants.{Sound}
 use Rattle.sheet.specs.Grammar.{Line}
 use Rattle.meaning.specs.Lists.{name_bytes}
 use Rattle.meaning.specs.Draft.{declared_in}
@@ -44,7 +43,7 @@ pub record Translation (t : List ℕ) (c : Counts) (rs ps ns ls : List ℤ) (byt
   pub declared : c.declared ≡ length (declared_in trees)
   pub names : name_front c bytes ≡ name_bytes (declared_in trees)
   -- a solve refuses the fronts on none of its grounds 1 to 5
-  pub sound : judge_of (range_front c rs) (primitive_front c ps) (length_front c ns) (literal_front c ls) ≡ Sound
+  pub sound : judge_of (range_front c rs) (primitive_front c ps) (length_front c ns) (literal_front c ls) ≡ Ok tt
   -- nor on 8, the declared quantities being the leading ones
   pub leads : bad_leading (range_front c rs) (primitive_front c ps) (pos c.declared) ≡ false
   -- and their problem says what the sheet says

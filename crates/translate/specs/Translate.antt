@@ -1,12 +1,11 @@
 -- What the public call gives back, and what it leaves in the caller's lists: document 01, "Translation".
-use Rattle.std.specs.Prelude.{◌≡◌, cond, List, ◌++◌, ℕ, ℤ, length, drop}
+use Rattle.std.specs.Prelude.{◌≡◌, cond, List, ◌++◌, ℕ, ℤ, length, drop, Result, Ok, Err}
 use Rattle.meaning.specs.Lists.{range_list, primitive_list, length_list, literals_in, literal_list, name_bytes}
 use Rattle.meaning.specs.Draft.{Draft, quantities_in}
 use Rattle.meaning.specs.Grounds.{short_lists, Outcome, refused, read, outcome_of}
 use Rattle.meaning.specs.declared.Refusal.TheVariants as refusal
 use Rattle.translate.specs.declared.Counts.{Counts}
-use Rattle.translate.specs.declared.Translated.{Translated}
-use Rattle.translate.specs.declared.Translated.TheVariants.{Accepted, Refused}
+use Rattle.translate.specs.declared.Refused.{Refused}
 
 -- 19 goes before all others
 unfoldable pub judged : List ℕ → List ℤ → List ℤ → List ℤ → List ℤ → List ℕ → Outcome
@@ -23,9 +22,9 @@ counts_of s =
       literals = length (literals_in s.made.clauses);
     }
 
-abbrev pub result_of : Outcome → Translated
-result_of (refused g k) = Refused g k
-result_of (read s) = Accepted (counts_of s)
+abbrev pub result_of : Outcome → Result Counts Refused
+result_of (refused g k) = Err (record { refusal = g; line = k })
+result_of (read s) = Ok (counts_of s)
 
 -- acceptance fills the front of a list and leaves the rest; a refusal writes nothing
 abbrev pub filled : {A : Type 0} → List A → List A → List A
@@ -37,7 +36,7 @@ into (read s) f old = filled (f s) old
 
 -- the call: its result, and every list, from what came
 pub record Translates
-    (t : List ℕ) (rs₀ ps₀ ns₀ ls₀ : List ℤ) (bytes₀ : List ℕ) (rs ps ns ls : List ℤ) (bytes : List ℕ) (r : Translated) : Type 0 where
+    (t : List ℕ) (rs₀ ps₀ ns₀ ls₀ : List ℤ) (bytes₀ : List ℕ) (rs ps ns ls : List ℤ) (bytes : List ℕ) (r : Result Counts Refused) : Type 0 where
   pub result : r ≡ result_of (judged t rs₀ ps₀ ns₀ ls₀ bytes₀)
   pub ranges : rs ≡ into (judged t rs₀ ps₀ ns₀ ls₀ bytes₀) (λ s. range_list (s.declared ++ s.made.ranges)) rs₀
   pub primitives : ps ≡ into (judged t rs₀ ps₀ ns₀ ls₀ bytes₀) (λ s. primitive_list s.made.primitives) ps₀

@@ -9,7 +9,7 @@ ghost use Rattle.std.specs.Prelude.{◌≡◌, ◌||◌, ltb};
 ghost use Rattle.translate.specs.Translate.{Translates};
 
 use meaning::Refusal;
-use sheet::Value;
+use sheet::line::line_end;
 use text::{bad_text, first_line, other_version};
 
 // How many of each an accepted sheet makes.
@@ -22,30 +22,18 @@ pub struct Counts {
     pub literals: usize,
 }
 
-// What a translation answers: the counts, or the refusal and its line.
+// The ground on which a sheet is refused, and the line at which it is met.
 #[derive(Clone, Copy)]
-pub enum Translated {
-    Accepted(Counts),
-    Refused { refusal: Refusal, line: usize },
+pub struct Refused {
+    pub refusal: Refusal,
+    pub line: usize,
 }
 
 // Whether a lent list is shorter than its full size: 19.
 fn short(ranges: usize, primitives: usize, lengths: usize, literals: usize, names: usize) -> bool
     ensures { result ≡ (ltb ranges 256 || (ltb primitives 1024 || (ltb lengths 256 || (ltb literals 3072 || ltb names 1024)))) }
 {
-    if ranges < 256 {
-        return true;
-    }
-    if primitives < 1_024 {
-        return true;
-    }
-    if lengths < 256 {
-        return true;
-    }
-    if literals < 3_072 {
-        return true;
-    }
-    names < 1_024
+    ranges < 256 || primitives < 1_024 || lengths < 256 || literals < 3_072 || names < 1_024
 }
 
 // Translates a sheet into the lists of a problem: ranges, primitives, clause lengths, literals, and the names of the declared quantities.
@@ -56,7 +44,7 @@ pub fn translate(
     lengths: &mut [i64],
     literals: &mut [i64],
     names: &mut [u8],
-) -> Translated
+) -> Result<Counts, Refused>
     ensures { Translates sheet.now ranges.old primitives.old lengths.old literals.old names.old ranges.new primitives.new lengths.new literals.new names.new result }
 {
     if short(
@@ -66,33 +54,32 @@ pub fn translate(
         literals.len(),
         names.len(),
     ) {
-        return Translated::Refused {
+        return Err(Refused {
             refusal: Refusal::Lists,
             line: 0,
-        };
+        });
     }
     if bad_text(sheet) {
-        return Translated::Refused {
+        return Err(Refused {
             refusal: Refusal::Text,
             line: 0,
-        };
+        });
     }
-    let end = sheet::line::line_end(sheet, 0);
-    let Value::Is(version) = first_line(&sheet[..end]) else {
-        return Translated::Refused {
+    let end = line_end(sheet, 0);
+    let Some(version) = first_line(&sheet[..end]) else {
+        return Err(Refused {
             refusal: Refusal::FirstLine,
             line: 1,
-        };
+        });
     };
     if other_version(version) {
-        return Translated::Refused {
+        return Err(Refused {
             refusal: Refusal::Version,
             line: 1,
-        };
+        });
     }
     walk::fill(
-        sheet,
-        end + 1,
+        &sheet[end + 1..],
         version,
         ranges,
         primitives,

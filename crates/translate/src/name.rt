@@ -1,5 +1,5 @@
 // The names of declared quantities as bytes: 8 each, padded with spaces.
-ghost use Rattle.std.specs.Prelude.{◌≡◌, ◌*◌, ◌≤◌, length, replicate};
+ghost use Rattle.std.specs.Prelude.{◌≡◌, ◌*◌, ◌≤◌, length};
 ghost use Rattle.meaning.specs.Lists.{padded, name_bytes};
 ghost use Rattle.translate.specs.Translate.{filled};
 ghost use Rattle.translate.specs.inner.Letters.{Letters};
@@ -12,10 +12,7 @@ fn letters(name: u64, most: usize, slot: &mut [u8]) -> usize
     requires { most ≤ length slot.old }
     ensures { Letters name most slot.old slot.new result }
 {
-    if most == 0 {
-        return 0;
-    }
-    if name == 0 {
+    if most == 0 || name == 0 {
         return 0;
     }
     let at = letters(name / 256, most - 1, slot);
@@ -23,23 +20,12 @@ fn letters(name: u64, most: usize, slot: &mut [u8]) -> usize
     at + 1
 }
 
-// Spaces all over.
-fn spaces(slot: &mut [u8])
-    ensures { slot.new ≡ replicate (length slot.old) 32 }
-{
-    let mut i: usize = 0;
-    while i < slot.len() {
-        slot[i] = b' ';
-        i += 1;
-    }
-}
-
 // One name.
 fn pad(name: u64, slot: &mut [u8])
     requires { length slot.old ≡ 8 }
     ensures { slot.new ≡ padded name }
 {
-    spaces(slot);
+    slot.fill(b' ');
     letters(name, WIDTH, slot);
 }
 
@@ -48,11 +34,8 @@ pub fn write(keys: &[u64], names: &mut [u8])
     requires { 8 * length keys.now ≤ length names.old }
     ensures { names.new ≡ filled (name_bytes keys.now) names.old }
 {
-    let mut i: usize = 0;
-    while i < keys.len() {
+    for (i, key) in keys.iter().enumerate() {
         let at = WIDTH * i;
-        let end = at + WIDTH;
-        pad(keys[i], &mut names[at..end]);
-        i += 1;
+        pad(*key, &mut names[at..at + WIDTH]);
     }
 }

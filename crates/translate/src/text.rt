@@ -2,7 +2,6 @@
 ghost use Rattle.std.specs.Prelude.{◌≡◌};
 ghost use Rattle.meaning.specs.Grounds.{bad_byte, any_bad_byte, bad_text, version_of, first_line, other_version};
 
-use sheet::Value;
 use sheet::piece::{digit_at, number};
 
 // The most bytes that a sheet has.
@@ -15,81 +14,44 @@ const LATEST: u64 = 65_535;
 fn bad_byte(b: u8) -> bool
     ensures { result ≡ bad_byte b }
 {
-    b != b'\n' && (b < b' ' || b'~' < b)
+    !matches!(b, b'\n' | b' '..=b'~')
 }
 
 // Whether a text has such a byte.
 fn any_bad_byte(text: &[u8]) -> bool
     ensures { result ≡ any_bad_byte text.now }
 {
-    let mut i: usize = 0;
-    while i < text.len() {
-        if bad_byte(text[i]) {
-            return true;
-        }
-        i += 1;
-    }
-    false
+    text.iter().any(|b| bad_byte(*b))
 }
 
 // Whether a text is empty, too long, has a bad byte, or has no LF at its end: 20.
 pub fn bad_text(text: &[u8]) -> bool
     ensures { result ≡ bad_text text.now }
 {
-    let size = text.len();
-    if size == 0 {
-        return true;
-    }
-    if MOST < size {
-        return true;
-    }
-    if any_bad_byte(text) {
-        return true;
-    }
-    text[size - 1] != b'\n'
+    text.is_empty() || MOST < text.len() || any_bad_byte(text) || !text.ends_with(b"\n")
 }
 
 // The version that these bytes say: a number without a unit.
-fn version(w: &[u8]) -> Value
+fn version(w: &[u8]) -> Option<u64>
     ensures { result ≡ version_of w.now }
 {
-    let Value::Is(v) = number(w) else {
-        return Value::Not;
-    };
-    if LATEST < v {
-        return Value::Not;
+    let v = number(w)?;
+    if LATEST < v || !digit_at(w, w.len() - 1) {
+        return None;
     }
-    if digit_at(w, w.len() - 1) {
-        return Value::Is(v);
-    }
-    Value::Not
+    Some(v)
 }
 
 // The version that line 1 says: the mark, a space, and the version.
-pub fn first_line(line: &[u8]) -> Value
+pub fn first_line(line: &[u8]) -> Option<u64>
     ensures { result ≡ first_line line.now }
 {
-    if line.len() < 4 {
-        return Value::Not;
-    }
-    if line[0] != b'R' {
-        return Value::Not;
-    }
-    if line[1] != b'U' {
-        return Value::Not;
-    }
-    if line[2] != b'L' {
-        return Value::Not;
-    }
-    if line[3] != b' ' {
-        return Value::Not;
-    }
-    version(&line[4..])
+    version(line.strip_prefix(b"RUL ")?)
 }
 
 // Whether a version is other than 1 or 2: 22.
 pub fn other_version(version: u64) -> bool
     ensures { result ≡ other_version version }
 {
-    version != 1 && version != 2
+    !matches!(version, 1 | 2)
 }

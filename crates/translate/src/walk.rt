@@ -1,5 +1,4 @@
 // The lines of a sheet behind the first, read into lists of full size, and those handed to the caller.
-ghost use Rattle.std.specs.Prelude.{drop};
 ghost use Rattle.sheet.specs.Lines.{lines_of};
 ghost use Rattle.meaning.specs.Draft.{blank};
 ghost use Rattle.meaning.specs.Grounds.{top_of, read_lines, some_declared};
@@ -7,33 +6,15 @@ ghost use Rattle.lines.specs.inner.Stored.{Full, Standing};
 ghost use Rattle.translate.specs.inner.Walk.{Lent, LinesRead, Accepts, Gives};
 
 use crate::name::write;
-use crate::{Counts, Translated};
-use lines::front::copy;
+use crate::{Counts, Refused};
 use lines::line::read_line;
-use lines::parts::{Lined, Progress};
+use lines::parts::{Equations, Lists, Progress};
 use meaning::Refusal;
-use sheet::line::line_end;
 
-// What the lines of a sheet come to: the counts, or the refusal and its line.
-#[derive(Clone, Copy)]
-pub enum Walked {
-    Read(Progress),
-    Refused { refusal: Refusal, line: usize },
-}
-
-// The lines from a place on, the first of them line 2: the first fault decides.
-fn read_lines(
-    text: &[u8],
-    from: usize,
-    version: u64,
-    ranges: &mut [i64],
-    primitives: &mut [i64],
-    lengths: &mut [i64],
-    literals: &mut [i64],
-    keys: &mut [u64],
-) -> Walked
-    requires { Full ranges.old primitives.old lengths.old literals.old keys.old }
-    ensures { LinesRead (read_lines (top_of version) 2 blank (lines_of (drop from text.now))) ranges.new primitives.new lengths.new literals.new keys.new result }
+// The lines of a text, the first of them line 2: the first fault decides.
+fn read_lines(text: &[u8], version: u64, lists: &mut Lists) -> Result<Progress, Refused>
+    requires { Full lists.old.equations.ranges lists.old.equations.primitives lists.old.lengths lists.old.literals lists.old.keys }
+    ensures { LinesRead (read_lines (top_of version) 2 blank (lines_of text.now)) lists.new.equations.ranges lists.new.equations.primitives lists.new.lengths lists.new.literals lists.new.keys result }
 {
     let mut done = Progress {
         declared: 0,
@@ -43,106 +24,75 @@ fn read_lines(
         literals: 0,
         ruled: false,
     };
-    let mut at = from;
-    let mut line: usize = 2;
-    while at < text.len() {
-        let end = line_end(text, at);
-        let lined = read_line(
-            &text[at..end],
-            version,
-            done,
-            ranges,
-            primitives,
-            lengths,
-            literals,
-            keys,
-        );
-        match lined {
-            Lined::Next(next) => {
-                done = next;
-            }
-            Lined::Refused(refusal) => {
-                return Walked::Refused { refusal, line };
-            }
-        }
-        at = end + 1;
-        line += 1;
+    for (i, ended) in text.split_inclusive(|b| *b == b'\n').enumerate() {
+        let line = i + 2;
+        let bytes = ended.strip_suffix(b"\n").unwrap_or(ended);
+        done = read_line(bytes, version, done, lists).map_err(|refusal| Refused { refusal, line })?;
     }
-    Walked::Read(done)
+    Ok(done)
 }
 
 // The fronts of the lists handed to the caller, with the counts.
 fn accept(
     done: Progress,
-    rs: &[i64],
-    ps: &[i64],
-    ns: &[i64],
-    ls: &[i64],
-    keys: &[u64],
+    lists: &Lists,
     ranges: &mut [i64],
     primitives: &mut [i64],
     lengths: &mut [i64],
     literals: &mut [i64],
     names: &mut [u8],
-) -> Translated
-    requires standing { Standing done rs.now ps.now ns.now ls.now keys.now }
+) -> Counts
+    requires standing { Standing done lists.now.equations.ranges lists.now.equations.primitives lists.now.lengths lists.now.literals lists.now.keys }
     requires lent { Lent ranges.old primitives.old lengths.old literals.old names.old }
-    ensures { Accepts done rs.now ps.now ns.now ls.now keys.now ranges.old primitives.old lengths.old literals.old names.old ranges.new primitives.new lengths.new literals.new names.new result }
+    ensures { Accepts done lists.now.equations.ranges lists.now.equations.primitives lists.now.lengths lists.now.literals lists.now.keys ranges.old primitives.old lengths.old literals.old names.old ranges.new primitives.new lengths.new literals.new names.new result }
 {
-    let counts = Counts {
+    let range_end = 2 * done.quantities;
+    let primitive_end = 4 * done.primitives;
+    let length_end = done.clauses;
+    let literal_end = 3 * done.literals;
+    ranges[..range_end].copy_from_slice(&lists.equations.ranges[..range_end]);
+    primitives[..primitive_end].copy_from_slice(&lists.equations.primitives[..primitive_end]);
+    lengths[..length_end].copy_from_slice(&lists.lengths[..length_end]);
+    literals[..literal_end].copy_from_slice(&lists.literals[..literal_end]);
+    write(&lists.keys[..done.declared], names);
+    Counts {
         quantities: done.quantities,
         declared: done.declared,
         primitives: done.primitives,
         clauses: done.clauses,
         literals: done.literals,
-    };
-    let range_end = 2 * done.quantities;
-    let primitive_end = 4 * done.primitives;
-    let length_end = done.clauses;
-    let literal_end = 3 * done.literals;
-    let key_end = done.declared;
-    copy(&rs[..range_end], ranges);
-    copy(&ps[..primitive_end], primitives);
-    copy(&ns[..length_end], lengths);
-    copy(&ls[..literal_end], literals);
-    write(&keys[..key_end], names);
-    Translated::Accepted(counts)
+    }
 }
 
-// Reads the lines from a place on, the first of them line 2, and fills the caller's lists where no line has a fault and a quantity is declared.
+// Reads the lines of a text, the first of them line 2, and fills the caller's lists where no line has a fault and a quantity is declared.
 pub fn fill(
     text: &[u8],
-    from: usize,
     version: u64,
     ranges: &mut [i64],
     primitives: &mut [i64],
     lengths: &mut [i64],
     literals: &mut [i64],
     names: &mut [u8],
-) -> Translated
+) -> Result<Counts, Refused>
     requires { Lent ranges.old primitives.old lengths.old literals.old names.old }
-    ensures { Gives (some_declared (read_lines (top_of version) 2 blank (lines_of (drop from text.now)))) ranges.old primitives.old lengths.old literals.old names.old ranges.new primitives.new lengths.new literals.new names.new result }
+    ensures { Gives (some_declared (read_lines (top_of version) 2 blank (lines_of text.now))) ranges.old primitives.old lengths.old literals.old names.old ranges.new primitives.new lengths.new literals.new names.new result }
 {
-    let mut rs = [0i64; 256];
-    let mut ps = [0i64; 1024];
-    let mut ns = [0i64; 256];
-    let mut ls = [0i64; 3072];
-    let mut keys = [0u64; 128];
-    let walked = read_lines(
-        text, from, version, &mut rs, &mut ps, &mut ns, &mut ls, &mut keys,
-    );
-    match walked {
-        Walked::Refused { refusal, line } => Translated::Refused { refusal, line },
-        Walked::Read(done) => {
-            if done.declared == 0 {
-                return Translated::Refused {
-                    refusal: Refusal::Undeclared,
-                    line: 0,
-                };
-            }
-            accept(
-                done, &rs, &ps, &ns, &ls, &keys, ranges, primitives, lengths, literals, names,
-            )
-        }
+    let mut lists = Lists {
+        equations: Equations {
+            ranges: [0; 256],
+            primitives: [0; 1024],
+        },
+        lengths: [0; 256],
+        literals: [0; 3072],
+        keys: [0; 128],
+    };
+    let done = read_lines(text, version, &mut lists)?;
+    if done.declared == 0 {
+        return Err(Refused {
+            refusal: Refusal::Undeclared,
+            line: 0,
+        });
     }
+    let counts = accept(done, &lists, ranges, primitives, lengths, literals, names);
+    Ok(counts)
 }

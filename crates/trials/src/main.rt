@@ -7,42 +7,23 @@ mod refusals;
 mod small;
 mod solving;
 
+use cases::table;
 use std::io;
-use std::rt::Files;
-
-// The refusals of solve.
-fn solve_refusals(rt: &(impl Files + Print)) -> io::Result<()> {
-    let mut buffer = [0u8; 65536];
-    let n = cases::table::load(rt, b"refusals.txt", &mut buffer);
-    refusals::compare(rt, b"refusals of solve", &buffer[..n])
-}
-
-// What an answer leaves in the buffers.
-fn buffers(rt: &(impl Files + Print)) -> io::Result<()> {
-    let mut buffer = [0u8; 65536];
-    let n = cases::table::load(rt, b"buffers.txt", &mut buffer);
-    refusals::compare(rt, b"buffers after solve", &buffer[..n])
-}
-
-// Problems whose sweeps were followed by hand.
-fn counted_problems(rt: &(impl Files + Print)) -> io::Result<()> {
-    let mut buffer = [0u8; 65536];
-    let n = cases::table::load(rt, b"counted.txt", &mut buffer);
-    pins::compare(rt, b"counted problems", &buffer[..n])
-}
-
-// Problems with the answers of the second implementation.
-fn pinned_problems(rt: &(impl Files + Print)) -> io::Result<()> {
-    let mut buffer = [0u8; 65536];
-    let n = cases::table::load(rt, b"pins.txt", &mut buffer);
-    pins::compare(rt, b"pinned problems", &buffer[..n])
-}
 
 // Runs every group.
 fn main(rt: HostRuntime) -> io::Result<()> {
-    solve_refusals(&rt)?;
-    buffers(&rt)?;
+    let alloc = rt.alloc();
+    table::compare(&rt, "refusals of solve", "refusals.txt", |case| {
+        refusals::agrees(alloc, case)
+    })?;
+    table::compare(&rt, "buffers after solve", "buffers.txt", |case| {
+        refusals::agrees(alloc, case)
+    })?;
     small::compare(&rt)?;
-    counted_problems(&rt)?;
-    pinned_problems(&rt)
+    table::compare(&rt, "counted problems", "counted.txt", |case| {
+        pins::agrees(alloc, case)
+    })?;
+    table::compare(&rt, "pinned problems", "pins.txt", |case| {
+        pins::agrees(alloc, case)
+    })
 }

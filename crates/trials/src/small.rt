@@ -1,547 +1,333 @@
-// Small problems from a fixed pseudo-random sequence, each answered by solve and by trying every point in order. A problem stands in
-// one list of counts, with every end and bound stored 2M too high: the numbers of quantities, primitives, clauses and literals and the
-// budget at places 0 to 4, ranges from 8, primitives from 16, lengths from 32, literals from 36, and the sequence's state at 79.
-use crate::solving;
-use cases::{lists, report, sequence};
+// Small problems from a fixed pseudo-random sequence, each answered by solve and by trying every point in order.
+ghost use Rattle.std.specs.Prelude.{pos, neg_ℤ, ◌≤ℤ◌, ◌≡◌, ◌<◌, length, vec_len, IfOk};
+
+use crate::solving::{Buffers, Lists};
+use cases::report;
+use cases::sequence::Sequence;
+use search::Answer;
+use std::alloc::{AllocError, Global};
 use std::io;
 
 // How many problems are compared.
 const PROBLEMS: usize = 5_000;
 
-// -M, 0 and M as they are stored.
-const LEAST: usize = 1_000_000_000_000;
-
-const ZERO: usize = 2_000_000_000_000;
-
-const MOST: usize = 3_000_000_000_000;
-
-// The place of the sequence's state, and its first value.
-const STATE: usize = 79;
-
+// The first state of the sequence.
 const SEED: usize = 20_011;
 
-// The next number of the sequence, below a limit.
-fn draw(p: &mut [usize], limit: usize) -> usize {
-    sequence::draw(p, STATE, limit)
+// M: no bound is farther from 0.
+const MOST: i64 = 1_000_000_000_000;
+
+// The values of a quantity: so many from the low end on, which is no farther from 0 than M and a little.
+#[derive(Clone, Copy)]
+struct Range {
+    low: i64,
+    values: u8,
+    ghost above: { neg_ℤ (pos 1000000001000) ≤ℤ low },
+    ghost under: { low ≤ℤ pos 1000000001000 },
 }
 
-// The low end of a quantity.
-fn low(p: &[usize], q: usize) -> usize {
-    lists::of(p, 8 + 2 * (q % 4))
-}
-
-// The high end of a quantity.
-fn high(p: &[usize], q: usize) -> usize {
-    lists::of(p, 9 + 2 * (q % 4))
-}
-
-// How many values a quantity has.
-fn width(p: &[usize], q: usize) -> usize {
-    std::num::wrapping_add_usize(std::num::wrapping_sub_usize(high(p, q), low(p, q)), 1)
-}
-
-// A number of a primitive.
-fn part(p: &[usize], i: usize, k: usize) -> usize {
-    lists::of(p, 16 + 4 * (i % 4) + k % 4)
-}
-
-// A clause's length.
-fn length(p: &[usize], c: usize) -> usize {
-    lists::of(p, 32 + c % 4)
-}
-
-// A number of a literal.
-fn literal(p: &[usize], i: usize, k: usize) -> usize {
-    lists::of(p, 36 + 3 * (i % 12) + k % 3)
-}
-
-// The most values that a quantity is given.
-fn most_values(n: usize) -> usize {
-    if n <= 2 {
-        return 12;
-    }
-    if n <= 3 { 6 } else { 4 }
-}
-
-// The low end of a range: near -M, near M, around the root of M either way, or around 0.
-fn low_end(place: usize, values: usize, slip: usize, near: usize) -> usize {
-    if place == 0 {
-        return LEAST + slip % 3;
-    }
-    if place == 1 {
-        return MOST + 1 - values % 16 - slip % 3;
-    }
-    if place == 2 {
-        return ZERO + 1_000_000 - slip % 3;
-    }
-    if place == 3 {
-        return ZERO - 1_000_000 - slip % 3;
-    }
-    ZERO - 7 + near % 12
-}
-
-// Makes the range of a quantity.
-fn make_range(p: &mut [usize], n: usize, q: usize) {
-    let values = draw(p, most_values(n)) % 15 + 1;
-    let place = draw(p, 14);
-    let slip = draw(p, 3);
-    let near = draw(p, 12);
-    let first = low_end(place, values, slip, near);
-    lists::set(p, 8 + 2 * (q % 4), first);
-    lists::set(
-        p,
-        9 + 2 * (q % 4),
-        std::num::wrapping_add_usize(first, values - 1),
-    );
-}
-
-// Makes the ranges.
-fn make_ranges(p: &mut [usize], n: usize) {
-    for q in 0..n {
-        make_range(p, n, q);
+// A low end near -M, near M, around the root of M either way, or around 0.
+fn low_end(place: usize, values: u8, slip: u8, near: u8) -> i64
+    ensures above { neg_ℤ (pos 1000000001000) ≤ℤ result }
+    ensures under { result ≤ℤ pos 1000000001000 }
+{
+    let slip = i64::from(slip);
+    match place {
+        0 => slip - MOST,
+        1 => MOST + 1 - i64::from(values) - slip,
+        2 => 1_000_000 - slip,
+        3 => -1_000_000 - slip,
+        _ => i64::from(near) - 7,
     }
 }
 
-// A primitive's second operand: none for a square.
-fn second(kind: usize, y: usize) -> usize {
-    if kind == 3 { 0 } else { y }
-}
+impl Range {
+    // The next range of a problem with so many quantities.
+    fn draw(sequence: &mut Sequence, quantities: u8) -> Range {
+        let most = match quantities {
+            2 => 12,
+            3 => 6,
+            _ => 4,
+        };
+        let values = sequence.draw(most) as u8 + 1;
+        let place = sequence.draw(14);
+        let slip = sequence.draw(3) as u8;
+        let near = sequence.draw(12) as u8;
+        let low = low_end(place, values, slip, near);
+        Range { low, values }
+    }
 
-// Makes a primitive.
-fn make_primitive(p: &mut [usize], n: usize, i: usize) {
-    let kind = draw(p, 3) % 3 + 1;
-    let z = draw(p, n);
-    let x = draw(p, n);
-    let y = second(kind, draw(p, n));
-    let from = 16 + 4 * (i % 4);
-    lists::set(p, from, kind);
-    lists::set(p, from + 1, z);
-    lists::set(p, from + 2, x);
-    lists::set(p, from + 3, y);
-}
+    // The high end.
+    fn high(&self) -> i64 {
+        self.low + i64::from(self.values) - 1
+    }
 
-// Makes the primitives.
-fn make_primitives(p: &mut [usize], n: usize) {
-    let count = draw(p, 4);
-    lists::set(p, 1, count);
-    for i in 0..count {
-        make_primitive(p, n, i);
+    // The least k with 2^k at least the number of values.
+    fn halvings(&self) -> usize {
+        (u8::BITS - self.values.saturating_sub(1).leading_zeros()) as usize
+    }
+
+    // The next bound for a quantity: from one below its range to one above, and within plus or minus M.
+    fn draw_bound(&self, sequence: &mut Sequence) -> i64 {
+        let step = sequence.draw(usize::from(self.values) + 2) as i64;
+        (self.low + step - 1).clamp(-MOST, MOST)
     }
 }
 
-// A bound within plus or minus M.
-fn held(bound: usize) -> usize {
-    if bound < LEAST {
-        return LEAST;
-    }
-    if MOST < bound { MOST } else { bound }
+// z = x + y, z = x * y, z = x squared.
+#[derive(Clone, Copy)]
+enum Primitive {
+    Sum { z: u8, x: u8, y: u8 },
+    Product { z: u8, x: u8, y: u8 },
+    Square { z: u8, x: u8 },
 }
 
-// A bound for a quantity: from one below its range to one above.
-fn make_bound(p: &mut [usize], q: usize) -> usize {
-    let wide = std::num::wrapping_add_usize(width(p, q), 2);
-    let step = draw(p, wide);
-    let above = std::num::wrapping_add_usize(low(p, q), step);
-    held(std::num::wrapping_sub_usize(above, 1))
-}
-
-// Puts one more literal behind the others.
-fn put_literal(p: &mut [usize], q: usize, sense: usize, bound: usize) {
-    let i = lists::of(p, 3);
-    let from = 36 + 3 * (i % 12);
-    lists::set(p, from, q);
-    lists::set(p, from + 1, sense);
-    lists::set(p, from + 2, bound);
-    lists::set(p, 3, std::num::wrapping_add_usize(i, 1));
-}
-
-// Makes one more literal.
-fn make_literal(p: &mut [usize], n: usize) {
-    let q = draw(p, n);
-    let sense = draw(p, 2);
-    let bound = make_bound(p, q);
-    put_literal(p, q, sense, bound);
-}
-
-// A clause's length: one in ten is empty, the others have 1 to 3 literals.
-fn length_of(kind: usize, size: usize) -> usize {
-    if kind == 0 { 0 } else { size % 3 + 1 }
-}
-
-// Makes a clause.
-fn make_clause(p: &mut [usize], n: usize, c: usize) {
-    let kind = draw(p, 10);
-    let size = length_of(kind, draw(p, 3));
-    lists::set(p, 32 + c % 4, size);
-    for k in 0..size {
-        make_literal(p, n);
-    }
-}
-
-// Makes the clauses.
-fn make_clauses(p: &mut [usize], n: usize) {
-    let count = draw(p, 4);
-    lists::set(p, 2, count);
-    lists::set(p, 3, 0);
-    for c in 0..count {
-        make_clause(p, n, c);
-    }
-}
-
-// A budget: one in three is small.
-fn budget_of(kind: usize, few: usize) -> usize {
-    if kind == 0 {
-        return few;
-    }
-    if kind == 1 { 100_000 } else { 1_000_000_000 }
-}
-
-// Makes the next problem of the sequence.
-fn make(p: &mut [usize]) {
-    let n = draw(p, 3) % 3 + 2;
-    lists::set(p, 0, n);
-    make_ranges(p, n);
-    make_primitives(p, n);
-    make_clauses(p, n);
-    let kind = draw(p, 3);
-    let few = draw(p, 12);
-    lists::set(p, 4, budget_of(kind, few));
-}
-
-// How far a stored number is from 0.
-fn size(v: usize) -> usize {
-    if v < ZERO { ZERO - v } else { v - ZERO }
-}
-
-// 1 for a stored number below 0, else 0.
-fn sign(v: usize) -> usize {
-    if v < ZERO { 1 } else { 0 }
-}
-
-// Whether z = x + y, of stored numbers.
-fn is_sum(z: usize, x: usize, y: usize) -> bool {
-    std::num::wrapping_add_usize(z, ZERO) == std::num::wrapping_add_usize(x, y)
-}
-
-// Whether z = x * y, of sizes: by division, so that nothing passes 64 bits.
-fn is_size(z: usize, x: usize, y: usize) -> bool {
-    if y == 0 {
-        return z == 0;
-    }
-    if z % y != 0 {
-        return false;
-    }
-    z / y == x
-}
-
-// 0 where two numbers have one sign, else 1.
-fn joint(x: usize, y: usize) -> usize {
-    if x == y { 0 } else { 1 }
-}
-
-// Whether z = x * y, of stored numbers.
-fn is_product(z: usize, x: usize, y: usize) -> bool {
-    if !is_size(size(z), size(x), size(y)) {
-        return false;
-    }
-    if z == ZERO {
-        return true;
-    }
-    sign(z) == joint(sign(x), sign(y))
-}
-
-// Whether a primitive holds at a point.
-fn holds(p: &[usize], i: usize, tried: &[usize]) -> bool {
-    let kind = part(p, i, 0);
-    let z = lists::of(tried, part(p, i, 1));
-    let x = lists::of(tried, part(p, i, 2));
-    let y = lists::of(tried, part(p, i, 3));
-    if kind == 1 {
-        return is_sum(z, x, y);
-    }
-    if kind == 2 {
-        return is_product(z, x, y);
-    }
-    is_product(z, x, x)
-}
-
-// Whether every primitive holds at a point.
-fn all_hold(p: &[usize], tried: &[usize]) -> bool {
-    for i in 0..lists::of(p, 1) {
-        if !holds(p, i, tried) {
-            return false;
+impl Primitive {
+    // The next primitive of a problem with so many quantities.
+    fn draw(sequence: &mut Sequence, quantities: u8) -> Primitive {
+        let kind = sequence.draw(3);
+        let z = draw_quantity(sequence, quantities);
+        let x = draw_quantity(sequence, quantities);
+        let y = draw_quantity(sequence, quantities);
+        match kind {
+            0 => Primitive::Sum { z, x, y },
+            1 => Primitive::Product { z, x, y },
+            _ => Primitive::Square { z, x },
         }
     }
-    true
-}
 
-// Whether a literal is true at a point.
-fn is_true(p: &[usize], i: usize, tried: &[usize]) -> bool {
-    let v = lists::of(tried, literal(p, i, 0));
-    let bound = literal(p, i, 2);
-    if literal(p, i, 1) == 0 {
-        return v <= bound;
+    // The numbers of a primitive in a list.
+    fn numbers(&self) -> [i64; 4] {
+        let (kind, z, x, y) = match *self {
+            Primitive::Sum { z, x, y } => (1, z, x, y),
+            Primitive::Product { z, x, y } => (2, z, x, y),
+            Primitive::Square { z, x } => (3, z, x, 0),
+        };
+        [kind, i64::from(z), i64::from(x), i64::from(y)]
     }
-    bound <= v
-}
 
-// Whether one of the literals of a clause is true at a point.
-fn one_true(p: &[usize], first: usize, count: usize, tried: &[usize]) -> bool {
-    for k in 0..count {
-        if is_true(p, std::num::wrapping_add_usize(first, k), tried) {
-            return true;
+    // Whether a primitive holds at a point.
+    fn holds(&self, point: &[i64]) -> bool {
+        match *self {
+            Primitive::Sum { z, x, y } => {
+                value(point, x).checked_add(value(point, y)) == Some(value(point, z))
+            }
+            Primitive::Product { z, x, y } => {
+                value(point, x).checked_mul(value(point, y)) == Some(value(point, z))
+            }
+            Primitive::Square { z, x } => {
+                value(point, x).checked_mul(value(point, x)) == Some(value(point, z))
+            }
         }
     }
-    false
 }
 
-// Whether each clause has a true literal at a point.
-fn all_true(p: &[usize], tried: &[usize]) -> bool {
-    let mut first: usize = 0;
-    for c in 0..lists::of(p, 2) {
-        let count = length(p, c);
-        if !one_true(p, first, count, tried) {
-            return false;
-        }
-        first = std::num::wrapping_add_usize(first, count);
-    }
-    true
+// A quantity is at most a bound, or at least.
+#[derive(Clone, Copy)]
+enum Literal {
+    AtMost { quantity: u8, bound: i64 },
+    AtLeast { quantity: u8, bound: i64 },
 }
 
-// Whether a point satisfies the problem; its values are in their ranges.
-fn satisfies(p: &[usize], tried: &[usize]) -> bool {
-    if !all_hold(p, tried) {
-        return false;
-    }
-    all_true(p, tried)
-}
-
-// Gives a quantity the value that a point's number asks for; what is left of the number is for the quantities before it.
-fn place(p: &[usize], q: usize, left: usize, tried: &mut [usize]) -> usize {
-    let values = width(p, q);
-    if values == 0 {
-        return 0;
-    }
-    lists::set(
-        tried,
-        q,
-        std::num::wrapping_add_usize(low(p, q), left % values),
-    );
-    left / values
-}
-
-// Makes the point with a number: quantity 0 weighs most.
-fn make_point(p: &[usize], n: usize, number: usize, tried: &mut [usize]) {
-    let mut left = number;
-    for k in 0..n {
-        left = place(p, n - 1 - k, left, tried);
-    }
-}
-
-// How many points the box has.
-fn points(p: &[usize], n: usize) -> usize {
-    let mut count: usize = 1;
-    for q in 0..n {
-        count = lists::times(count, width(p, q));
-    }
-    count
-}
-
-// The number of the first point that satisfies the problem, or the number of points where none does.
-fn first_point(p: &[usize], n: usize, count: usize, tried: &mut [usize]) -> usize {
-    for number in 0..count {
-        make_point(p, n, number, tried);
-        if satisfies(p, tried) {
-            return number;
+impl Literal {
+    // The next literal of a problem with these ranges.
+    fn draw(sequence: &mut Sequence, ranges: &[Range]) -> Literal
+        requires some { 0 < length ranges.now }
+        requires few { length ranges.now < 256 }
+    {
+        let q = sequence.draw(ranges.len());
+        let quantity = q as u8;
+        let sense = sequence.draw(2);
+        let bound = ranges[q].draw_bound(sequence);
+        match sense {
+            0 => Literal::AtMost { quantity, bound },
+            _ => Literal::AtLeast { quantity, bound },
         }
     }
-    count
-}
 
-// The workspace needed: 2n(D+1).
-fn room(p: &[usize], n: usize) -> usize {
-    let mut slots: usize = 1;
-    for q in 0..n {
-        slots = std::num::wrapping_add_usize(slots, lists::halvings(width(p, q)));
-    }
-    lists::times(slots, std::num::wrapping_add_usize(n, n))
-}
-
-// A number from one that is stored 2,000,000,000,000 too high.
-fn signed(v: usize) -> i64 {
-    if v < ZERO {
-        return !((ZERO - 1 - v) as i64);
-    }
-    lists::plain(v - ZERO)
-}
-
-// Copies ranges as numbers.
-fn copy_ranges(p: &[usize], list: &mut [i64]) {
-    for i in 0..8 {
-        lists::put(list, i, signed(lists::of(p, 8 + i)));
-    }
-}
-
-// Copies primitives as numbers.
-fn copy_primitives(p: &[usize], list: &mut [i64]) {
-    for i in 0..16 {
-        lists::put(list, i, lists::plain(lists::of(p, 16 + i)));
-    }
-}
-
-// Copies lengths as numbers.
-fn copy_lengths(p: &[usize], list: &mut [i64]) {
-    for i in 0..4 {
-        lists::put(list, i, lists::plain(lists::of(p, 32 + i)));
-    }
-}
-
-// A number of a literal: its bound is an end, the others are counts.
-fn literal_number(k: usize, v: usize) -> i64 {
-    if k == 2 {
-        return signed(v);
-    }
-    lists::plain(v)
-}
-
-// Copies literals as numbers.
-fn copy_literals(p: &[usize], list: &mut [i64]) {
-    for i in 0..36 {
-        lists::put(list, i, literal_number(i % 3, lists::of(p, 36 + i)));
-    }
-}
-
-// Whether a point is the one tried.
-fn is_point(point: &[i64], tried: &[usize], n: usize) -> bool {
-    for q in 0..n {
-        if lists::at(point, q) != signed(lists::of(tried, q)) {
-            return false;
+    // The numbers of a literal in a list.
+    fn numbers(&self) -> [i64; 3] {
+        match *self {
+            Literal::AtMost { quantity, bound } => [i64::from(quantity), 0, bound],
+            Literal::AtLeast { quantity, bound } => [i64::from(quantity), 1, bound],
         }
     }
-    true
-}
 
-// Whether a floor is not after the point tried.
-fn not_after(floor: &[i64], tried: &[usize], n: usize) -> bool {
-    for q in 0..n {
-        let a = lists::at(floor, q);
-        let b = signed(lists::of(tried, q));
-        if a < b {
-            return true;
-        }
-        if b < a {
-            return false;
+    // Whether a literal is true at a point.
+    fn is_true(&self, point: &[i64]) -> bool {
+        match *self {
+            Literal::AtMost { quantity, bound } => value(point, quantity) <= bound,
+            Literal::AtLeast { quantity, bound } => bound <= value(point, quantity),
         }
     }
-    true
 }
 
-// Whether an answer is right: the point tried is the first one where some point satisfies the problem.
-fn answer_right(number: usize, some: bool, point: &[i64], tried: &[usize], n: usize) -> bool {
-    if number == solving::NONE {
-        if some {
-            return false;
+// The next quantity of so many.
+fn draw_quantity(sequence: &mut Sequence, quantities: u8) -> u8 {
+    sequence.draw(usize::from(quantities)) as u8
+}
+
+// The value of a quantity at a point.
+fn value(point: &[i64], quantity: u8) -> i64 {
+    point.get(usize::from(quantity)).copied().unwrap_or(0)
+}
+
+// The next ranges of a problem with so many quantities.
+fn draw_ranges(
+    alloc: Global,
+    sequence: &mut Sequence,
+    quantities: u8,
+) -> Result<Vec<Range>, AllocError>
+    ensures { IfOk result (λ v. vec_len v ≡ quantities) }
+{
+    (0..quantities)
+        .map(|_| Range::draw(sequence, quantities))
+        .collect(alloc)
+}
+
+// A problem and its budget.
+#[derive(Drop)]
+struct Problem {
+    ranges: Vec<Range>,
+    primitives: Vec<Primitive>,
+    clauses: Vec<Vec<Literal>>,
+    budget: u32,
+}
+
+impl Problem {
+    // The next problem: 2 to 4 quantities, up to 3 primitives and up to 3 clauses. One clause in ten is empty, the others have 1 to 3
+    // literals. One budget in three is small.
+    fn draw(alloc: Global, sequence: &mut Sequence) -> Result<Problem, AllocError> {
+        let quantities = sequence.draw(3) as u8 + 2;
+        let ranges = draw_ranges(alloc, sequence, quantities)?;
+        let mut primitives = Vec::new(alloc);
+        for _ in 0..sequence.draw(4) {
+            primitives.push(Primitive::draw(sequence, quantities))?;
         }
-        return lists::kept(point, 0);
-    }
-    if !lists::kept(point, n) {
-        return false;
-    }
-    if number == solving::FOUND {
-        if some {
-            return is_point(point, tried, n);
+        let mut clauses = Vec::new(alloc);
+        for _ in 0..sequence.draw(4) {
+            let is_empty = sequence.draw(10) == 0;
+            let size = sequence.draw(3) + 1;
+            let mut clause = Vec::new(alloc);
+            if !is_empty {
+                for _ in 0..size {
+                    clause.push(Literal::draw(sequence, &ranges))?;
+                }
+            }
+            clauses.push(clause)?;
         }
-        return false;
+        let kind = sequence.draw(3);
+        let few = sequence.draw(12) as u32;
+        let budget = match kind {
+            0 => few,
+            1 => 100_000,
+            _ => 1_000_000_000,
+        };
+        Ok(Problem {
+            ranges,
+            primitives,
+            clauses,
+            budget,
+        })
     }
-    if number != solving::STOP {
-        return false;
-    }
-    if some {
-        return not_after(point, tried, n);
-    }
-    true
-}
 
-// Whether a count of sweeps is within the budget, and all of it where the search stopped.
-fn sweeps_right(number: usize, sweeps: usize, budget: usize) -> bool {
-    if number == solving::STOP {
-        return sweeps == budget;
+    // The problem in lists.
+    fn lists(&self, alloc: Global) -> Result<Lists, AllocError> {
+        let mut ranges = Vec::new(alloc);
+        for range in &self.ranges {
+            ranges.extend_from_slice(&[range.low, range.high()])?;
+        }
+        let mut primitives = Vec::new(alloc);
+        for primitive in &self.primitives {
+            primitives.extend_from_slice(&primitive.numbers())?;
+        }
+        let mut lengths = Vec::new(alloc);
+        let mut literals = Vec::new(alloc);
+        for clause in &self.clauses {
+            lengths.push(clause.len() as i64)?;
+            for literal in clause {
+                literals.extend_from_slice(&literal.numbers())?;
+            }
+        }
+        Ok(Lists {
+            ranges,
+            primitives,
+            lengths,
+            literals,
+        })
     }
-    sweeps <= budget
-}
 
-// How many numbers of each list a problem has, with some more workspace than is needed.
-fn sizes(p: &[usize], n: usize, needed: usize, more: usize) -> solving::Sizes {
-    let primitives = lists::times(lists::of(p, 1), 4);
-    let lengths = lists::of(p, 2);
-    let literals = lists::times(lists::of(p, 3), 3);
-    solving::Sizes {
-        ranges: std::num::wrapping_add_usize(n, n),
-        primitives,
-        lengths,
-        literals,
-        point: n,
-        work: std::num::wrapping_add_usize(needed, more),
+    // The workspace needed: 2n(D+1).
+    fn room(&self) -> usize {
+        let mut slots: usize = 1;
+        for range in &self.ranges {
+            slots = slots.saturating_add(range.halvings());
+        }
+        slots.saturating_mul(self.ranges.len().saturating_mul(2))
     }
-}
 
-// Whether solve and the trial of every point agree on a problem.
-fn agrees(p: &[usize], more: usize, tried: &mut [usize]) -> bool {
-    let mut ranges = [0i64; 8];
-    let mut primitives = [0i64; 16];
-    let mut lengths = [0i64; 4];
-    let mut literals = [0i64; 36];
-    let mut point = [0i64; 8];
-    let mut work = [0i64; 128];
-    copy_ranges(p, &mut ranges);
-    copy_primitives(p, &mut primitives);
-    copy_lengths(p, &mut lengths);
-    copy_literals(p, &mut literals);
-    lists::mark(&mut point);
-    lists::mark(&mut work);
-    let n = lists::of(p, 0);
-    let needed = room(p, n);
-    let budget = lists::of(p, 4);
-    let outcome = solving::solve(
-        &ranges,
-        &primitives,
-        &lengths,
-        &literals,
-        sizes(p, n, needed, more),
-        lists::plain(n),
-        lists::plain(budget),
-        &mut point,
-        &mut work,
-    );
-    let number = outcome.number;
-    let sweeps = outcome.sweeps;
-    let count = points(p, n);
-    let first = first_point(p, n, count, tried);
-    if !answer_right(number, first < count, &point, tried, n) {
-        return false;
+    // Whether a point satisfies the problem; its values are in their ranges.
+    fn is_satisfied(&self, point: &[i64]) -> bool {
+        self.primitives.iter().all(|p| p.holds(point))
+            && self.clauses.iter().all(|clause| clause.iter().any(|literal| literal.is_true(point)))
     }
-    if !sweeps_right(number, sweeps, budget) {
-        return false;
-    }
-    solving::work_right(&work, needed)
-}
 
-// How many problems agree.
-fn agreements(rt: &impl Print, p: &mut [usize], tried: &mut [usize]) -> io::Result<usize> {
-    let mut agreed: usize = 0;
-    for i in 0..PROBLEMS {
-        make(p);
-        let right = agrees(p, i % 3, tried);
-        agreed = std::num::wrapping_add_usize(agreed, report::counted(rt, right, i)?);
+    // Lays behind a point the first values in some ranges, the last of the problem, that satisfy it; leaves the point as it was where
+    // none do.
+    fn complete(&self, ranges: &[Range], point: &mut Vec<i64>) -> Result<bool, AllocError> {
+        let Some((range, rest)) = ranges.split_first() else {
+            return Ok(self.is_satisfied(point));
+        };
+        for x in range.low..=range.high() {
+            point.push(x)?;
+            if self.complete(rest, point)? {
+                return Ok(true);
+            }
+            point.pop();
+        }
+        Ok(false)
     }
-    Ok(agreed)
+
+    // The first point that satisfies the problem: quantity 0 weighs most.
+    fn first_point(&self, alloc: Global) -> Result<Option<Vec<i64>>, AllocError> {
+        let mut point = Vec::new(alloc);
+        let some = self.complete(&self.ranges, &mut point)?;
+        Ok(if some { Some(point) } else { None })
+    }
+
+    // Whether solve and the trial of every point agree on a problem, with some more workspace than is needed.
+    fn agrees(&self, alloc: Global, more: usize) -> io::Result<bool> {
+        let lists = self.lists(alloc)?;
+        let quantities = self.ranges.len();
+        let needed = self.room();
+        let mut buffers = Buffers::new(alloc, quantities, needed.saturating_add(more))?;
+        let answer = buffers.solve(&lists, quantities as i64, i64::from(self.budget));
+        let Some(point) = buffers.point(answer) else {
+            return Ok(false);
+        };
+        let Ok(solved) = answer else {
+            return Ok(false);
+        };
+        let budget = self.budget as usize;
+        let is_right = match (solved.answer, self.first_point(alloc)?) {
+            (Answer::None, None) => solved.sweeps <= budget,
+            (Answer::Found, Some(first)) => point == first.as_slice() && solved.sweeps <= budget,
+            (Answer::Stopped, Some(first)) => {
+                point <= first.as_slice() && solved.sweeps == budget
+            }
+            (Answer::Stopped, None) => solved.sweeps == budget,
+            _ => false,
+        };
+        Ok(is_right && buffers.is_cleared(needed))
+    }
 }
 
 // Compares every problem of the sequence.
-pub fn compare(rt: &impl Print) -> io::Result<()> {
-    let mut p = [0usize; 80];
-    let mut tried = [0usize; 8];
-    lists::set(&mut p, STATE, SEED);
-    let agreed = agreements(rt, &mut p, &mut tried)?;
-    report::group(rt, b"small problems", PROBLEMS, agreed)
+pub fn compare(rt: &(impl Print + AllocGlobal)) -> io::Result<()> {
+    let alloc = rt.alloc();
+    let mut sequence = Sequence::new(SEED);
+    report::compare(rt, "small problems", 0..PROBLEMS, |case| {
+        let problem = Problem::draw(alloc, &mut sequence)?;
+        problem.agrees(alloc, case % 3)
+    })
 }

@@ -4,10 +4,11 @@ use mathlib.Core.Logic.{⊎_elim}
 use mathlib.Core.Bool.{true, false}
 use lib.IntN.{ℤ, pos, negsuc}
 use lib.Signed.{lt_z, le_z, ◌≤ℤ◌, ◌<ℤ◌}
+use Rattle.std.specs.Int.{int_min, int_max}
 use Rattle.whole.specs.Numbers.{M, minus_m, Near, min_z, max_z, min4, max4}
 use Rattle.whole.specs.inner.Held.{held, Good}
 use Rattle.whole.specs.declared.Range.{Range}
-use Rattle.whole.proofs.Kit.{ints, lt_or_le, min_parts, max_parts, min_through, max_through}
+use Rattle.whole.proofs.Kit.{ints, lt_or_le, min_parts, max_parts, min_through, max_through, min_is, max_is}
 use Rattle.whole.proofs.Meaning.{held_is}
 
 -- the three cases of a held number
@@ -56,6 +57,23 @@ held_max4 a b c d = ap₂ max_z (held_max a b) (held_max c d) ∙ held_max (max_
 pub held_near : (z : ℤ) → Near z → held z ≡ z
 held_near z h = (held_is z).within h
 
+-- the library's bounds hold a number
+pub clamp_is : (z : ℤ) → int_max (negsuc 1_000_000_000_000) (int_min z (pos 1_000_000_000_001)) ≡ held z
+unfolding held
+clamp_is z =
+    let o = pos 1_000_000_000_001 in
+    let e : int_min z o ≡ min_z o z = min_is z o ∙ omega (ints, min_parts z o, min_parts o z) in
+    max_is (negsuc 1_000_000_000_000) (int_min z o) ∙ ap (max_z (negsuc 1_000_000_000_000)) e
+
+-- a held number is held as it is
+pub held_held : (z : ℤ) → held (held z) ≡ held z
+held_held z = go (hold z)
+  where
+    go : Hold z → held (held z) ≡ held z
+    go (exact i e) = ap held e
+    go (above i e) = ap held e ∙ (held_is (pos 1_000_000_000_001)).over (omega ints) ∙ sym e
+    go (below i e) = ap held e ∙ (held_is (negsuc 1_000_000_000_000)).under (omega ints) ∙ sym e
+
 -- ---- a test against a near number
 module _ (s l : ℤ) (n : Near l) where
   pub held_le : le_z (held s) l ≡ le_z s l
@@ -89,6 +107,13 @@ module _ (s l : ℤ) (n : Near l) where
       go (exact i e) = ap (lt_z l) e
       go (above i e) = let a : lt_z l (held s) ≡ true = omega ints in let b : lt_z l s ≡ true = omega ints in a ∙ sym b
       go (below i e) = let a : lt_z l (held s) ≡ false = omega ints in let b : lt_z l s ≡ false = omega ints in a ∙ sym b
+
+-- two numbers that are held alike
+pub alike_lt : (r s l : ℤ) → Near l → held r ≡ held s → lt_z r l ≡ lt_z s l
+alike_lt r s l n e = sym (held_lt r l n) ∙ ap (λ (z : ℤ). lt_z z l) e ∙ held_lt s l n
+
+pub lt_alike : (r s l : ℤ) → Near l → held r ≡ held s → lt_z l r ≡ lt_z l s
+lt_alike r s l n e = sym (lt_held r l n) ∙ ap (lt_z l) e ∙ lt_held s l n
 
 -- ---- what a good range has in common with a span and with the span held: neither has anything, or both have the same
 pub data Meeting (old s : Range) : Type 0 where

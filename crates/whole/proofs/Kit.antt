@@ -1,7 +1,7 @@
 -- The proof kit for whole numbers: `omega ints` decides linear facts on ℤ by the positive part positive_part and the negative part negative_part of each number.
 use mathlib.Core.Path.{◌≡◌, refl, sym, ap, ap₂, subst, ◌∙◌}
 use mathlib.Core.Logic.{◌⊎◌, inl, inr, ⊎_elim}
-use mathlib.Core.Bool.{Bool, true, false, not, cond, ◌&&◌}
+use mathlib.Core.Bool.{Bool, true, false, not, cond}
 use Prim.Native.Nat.{ℕ, zero, suc, ◌+◌, ◌-◌, ◌*◌, ◌/◌, ◌%◌, ◌≤◌, ◌<◌, ◌^◌, min, max}
 use native.Mathlib.Omega.{arith}
 use lib.Dec.{T, ltb, leb, ltb→lt, nltb→le, lt→ltb, le→leb, leb→le, nleb→lt}
@@ -11,7 +11,8 @@ use mir.Syntax.{w64}
 use mir.Val.{Fits, SFits, to_z, of_z}
 use mir.Facts.{to_z-of_z, Fits-nat_abs}
 use mir.ValLaws.{sfits_le}
-use Rattle.whole.specs.Numbers.{positive_part, negative_part, Near, min_z, max_z}
+use Rattle.std.specs.Int.{int_min, int_max}
+use Rattle.whole.specs.Numbers.{positive_part, negative_part, Near, min_z, max_z, min4, max4}
 use native.Mathlib.Nat.{mul-le-mul_left, add-mul, mul-le-mul_right, sub-add_cancel, div-mul-le_self, lt-div-mul-add, div-add-mod', div-le_self, lt_of_not-le, not-le_of_lt, mul-le-mul}
 
 cond_ind : (c : Bool) (x y : ℤ) (Q : ℤ → Type 0) → (T c → Q x) → (T (not c) → Q y) → Q (cond c x y)
@@ -129,13 +130,6 @@ le_false (pos a) (pos b) e = omega (arith, nleb→lt a b (subst (λ (x : Bool). 
 le_false (pos a) (negsuc b) e = omega arith
 le_false (negsuc a) (pos b) e = absurd (subst T e tt)
 le_false (negsuc a) (negsuc b) e = omega (arith, nleb→lt b a (subst (λ (x : Bool). T (not x)) (sym e) tt))
-
--- two tests in a row, each as the machine made it
-pub and_yes : {s t s' t' : Bool} → s ≡ s' → t ≡ t' → s ≡ true → t ≡ (s' && t')
-and_yes {t' = t'} e f g = f ∙ ap (λ (b : Bool). b && t') (sym g ∙ e)
-
-pub and_no : {s s' : Bool} (t : Bool) → s ≡ s' → s ≡ false → s ≡ (s' && t)
-and_no t e g = g ∙ ap (λ (b : Bool). b && t) (sym g ∙ e)
 
 -- ---- and back: what a test gives, for a clause that speaks of it
 is_true : (x : Bool) → T x → x ≡ true
@@ -278,13 +272,6 @@ quots (negsuc a) (negsuc b) h =
     let k = suc a / suc b in
     omega (arith, div-mul-le_self (suc a) (suc b), lt-div-mul-add {a = suc a} b<, div-le_self (suc a) (suc b), times (pos k) (negsuc b))
 
-pub bits_nonzero : (b : ℤ) → SFits w64 b → 0 < positive_part b + negative_part b → 0 < of_z w64 b
-bits_nonzero (pos n) f h = omega arith
-bits_nonzero (negsuc n) f h = below_power n f.sfits
-  where
-    below_power : (k : ℕ) → k < 2 ^ 63 → 0 < 2 ^ 64 - suc k
-    below_power k g = omega arith
-
 -- (q - 1) * b and (q + 1) * b
 pub pred_times : (q b : ℤ) → (q -ℤ pos 1) *ℤ b ≡ q *ℤ b -ℤ b
 pred_times q b = let e = *ℤ_distr q (negsuc 0) b in omega (ints, plus (q *ℤ b) (negsuc 0 *ℤ b), times (negsuc 0) b, minus (q *ℤ b) b)
@@ -335,9 +322,6 @@ pub index_is : (z : ℤ) → SFits w64 z → pos 0 ≤ℤ z → pos (nat_abs (at
 index_is z f h = ap (λ (x : ℤ). pos (nat_abs x)) (to_z-of_z f) ∙ pos-nat_abs z (yes_non_neg h)
 
 -- the same of a number that the machine made
-pub cast : {m z : ℤ} → Holds m z → pos 0 ≤ℤ z → T (non_neg (at m)) × Fits w64 (nat_abs (at m))
-cast {m} {z} h k = let e = h.is in index m h.fits (omega ints)
-
 pub cast_is : {m z : ℤ} → Holds m z → pos 0 ≤ℤ z → nat_abs (at m) ≡ positive_part z
 cast_is {m} {z} h k = ap nat_abs h.is ∙ omega (ints, nat_abs_is z, apart z)
 
@@ -447,6 +431,19 @@ unfolding max_z
 max_parts a b =
     by_test (le_z a b) b a (λ z. positive_part z + (negative_part a + negative_part b) ≡ max (positive_part a + negative_part b) (positive_part b + negative_part a) + negative_part z)
     (λ e. omega (arith, le_true a b e)) (λ e. omega (arith, le_false a b e))
+
+-- the library's smaller and larger of two are ours
+pub min_is : (a b : ℤ) → int_min a b ≡ min_z a b
+min_is a b = by_test (lt_z b a) b a (λ z. z ≡ min_z a b) (λ e. omega (ints, min_parts a b)) (λ e. omega (ints, min_parts a b))
+
+pub max_is : (a b : ℤ) → int_max a b ≡ max_z a b
+max_is a b = by_test (lt_z b a) a b (λ z. z ≡ max_z a b) (λ e. omega (ints, max_parts a b)) (λ e. omega (ints, max_parts a b))
+
+pub min4_is : (a b c d : ℤ) → int_min (int_min a b) (int_min c d) ≡ min4 a b c d
+min4_is a b c d = min_is (int_min a b) (int_min c d) ∙ ap₂ min_z (min_is a b) (min_is c d)
+
+pub max4_is : (a b c d : ℤ) → int_max (int_max a b) (int_max c d) ≡ max4 a b c d
+max4_is a b c d = max_is (int_max a b) (int_max c d) ∙ ap₂ max_z (max_is a b) (max_is c d)
 
 -- ---- the remainder
 pub rem_is : (a b : ℤ) → quot_z a b *ℤ b +ℤ rem_z a b ≡ a

@@ -81,9 +81,6 @@ shift j h = shl_exact {a = 1} 1 j 64 (lit< tt) (omega arith) ∙ one-mul (2 ^ j)
 step_sum : (n j : ℕ) → Nearest n j → 2 ^ j + n / 2 ^ j < 3 * 2 ^ j
 step_sum n j f = omega (arith, (div-lt_iff_lt-mul {x = n} {y = 2 * 2 ^ j} (pow_pos j)).1 (omega (arith, f.below)))
 
-pub sum_fits : (n j : ℕ) → Nearest n j → (1 * 2 ^ j) % 18_446_744_073_709_551_616 + n / 2 ^ j ≤ 4_194_304
-sum_fits n j f = rw (shift j f.small) (omega (arith, step_sum n j f, pow_mono f.small))
-
 pub above_root : (n j : ℕ) → Nearest n j → Above n j (((1 * 2 ^ j) % 18_446_744_073_709_551_616 + n / 2 ^ j) / 2 + 1)
 above_root n j f = rw (shift j f.small) (record { above = step_above n (2 ^ j) (pow_pos j); small = half (2 ^ j) (2 ^ j + n / 2 ^ j) (step_sum n j f) })
   where
@@ -111,8 +108,5 @@ twice : (j : ℕ) → 2 ^ (j + 1) ≡ 2 * 2 ^ j
 twice j = omega (arith, pow-add 2 j 1)
 
 module _ (n j g : ℕ) (some : 0 < n) (f : Nearest n j) (a : Above n j g) where
-  pub excess : (g * g - n) / 2 ^ (j + 1) < g
-  excess = less n (2 ^ (j + 1)) g some a.above (omega (arith, a.small, twice j)) (pow_pos (j + 1))
-
   pub start : Start n (g - (g * g - n) / 2 ^ (j + 1))
   start = lowered n (2 ^ (j + 1)) g some a.above (omega (arith, a.small, twice j)) (pow_pos (j + 1)) (omega (arith, twice j, pow_mono f.small))

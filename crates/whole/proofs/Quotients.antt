@@ -1,15 +1,18 @@
 -- Quotients against products: a product keeps the order in each factor that is above 0, and turns it for one below 0.
+use mathlib.Core.Bool.{true, false}
 use mathlib.Core.Path.{◌≡◌, refl, sym, ap, subst, ◌∙◌}
 use Prim.Native.Nat.{zero, suc, ◌≤◌}
 use native.Mathlib.Nat.{div-le_self, zero-div}
 use native.Mathlib.Omega.{arith}
 use lib.IntN.{ℤ, pos, negsuc, neg_ℤ, nat_abs, ◌-ℤ◌, ◌*ℤ◌}
-use lib.Signed.{◌≤ℤ◌, ◌<ℤ◌}
+use lib.Signed.{lt_z, quot_z, rem_z, ◌≤ℤ◌, ◌<ℤ◌}
+use mir.Syntax.{w64}
+use mir.Val.{SFits}
 use Rattle.whole.specs.Numbers.{Near, floor_q, ceil_q}
 use Rattle.whole.specs.inner.Held.{Is}
-use Rattle.whole.proofs.Kit.{ints, nears, at, rn, Holds, made, minus, *ℤ_mono, nat_abs_is, neg_positive, neg_negative, near_abs, abs_near}
-use Rattle.whole.proofs.Division.{Under, Over, past_up, short_up, floor_under, ceiling_over}
-use Rattle.whole.proofs.Meaning.{floor_of, floor_only, ceiling_of, ceiling_only}
+use Rattle.whole.proofs.Kit.{ints, nears, at, rd, rn, lit, Holds, made, dif, quo, remains, Quot, quots, apart, plus, minus, pred_times, rem_is, *ℤ_mono, nat_abs_is, neg_positive, neg_negative, near_abs, abs_near}
+use Rattle.whole.proofs.Division.{Under, past_up, short_up, floor_under, ceiling_over}
+use Rattle.whole.proofs.Meaning.{floor_of, floor_only}
 
 -- ---- a quotient against a product, for a divisor above 0
 module _ (x y z : ℤ) (k : pos 0 <ℤ y) where
@@ -78,8 +81,34 @@ ceiling_near a b h = abs_near (ceil_q a b) (omega (arith, ceiling_size a b, near
 pub floor_found : (a b q : ℤ) → Near a → (b ≡ pos 0 → ⊥) → Under a b q → Is (floor_q a b) q
 floor_found a b q h n u = let e = floor_only a b q n (floor_of a b q n u) in record { is = e; near = subst Near (sym e) (floor_near a b h) }
 
-pub ceiling_found : (a b q : ℤ) → Near a → (b ≡ pos 0 → ⊥) → Over a b q → Is (ceil_q a b) q
-ceiling_found a b q h n u = let e = ceiling_only a b q n (ceiling_of a b q n u) in record { is = e; near = subst Near (sym e) (ceiling_near a b h) }
+-- the machine rounds towards zero, and a remainder below 0 says that this was up
+module _ (a b : ℤ) (f : SFits w64 a) (g : SFits w64 b) (n : Near a) (k : pos 0 <ℤ b) where
+  parts_of : Quot a b
+  parts_of = quots a b (omega ints)
+
+  quotient : Holds (quot_z (at a) (at b)) (quot_z a b)
+  quotient = quo (rd f) (rd g) (omega (ints, apart a, parts_of))
+
+  remainder : Holds (rem_z (at a) (at b)) (rem_z a b)
+  remainder = remains (rd f) (rd g) f
+
+  pub one_less : lt_z (at (rem_z (at a) (at b))) (pos 0) ≡ true → Is (floor_q a b) (at (at (quot_z (at a) (at b)) -ℤ pos 1))
+  one_less h =
+      let t = quot_z a b in
+      let e = pred_times t b in
+      let x = rem_is a b in
+      let y = remainder in
+      let d : Holds (at (quot_z (at a) (at b)) -ℤ pos 1) (t -ℤ pos 1) = dif quotient.is (lit (pos 1)) (omega (ints, apart a, parts_of, minus t (pos 1))) in
+      subst (Is (floor_q a b)) (sym d.is)
+      (floor_found a b (t -ℤ pos 1) n (λ z. absurd (omega ints)) (omega (ints, apart b, parts_of, plus (t *ℤ b) (rem_z a b), minus (t *ℤ b) b, plus ((t -ℤ pos 1) *ℤ b) b)))
+
+  pub as_divided : lt_z (at (rem_z (at a) (at b))) (pos 0) ≡ false → Is (floor_q a b) (at (quot_z (at a) (at b)))
+  as_divided h =
+      let t = quot_z a b in
+      let x = rem_is a b in
+      let y = remainder in
+      subst (Is (floor_q a b)) (sym quotient.is)
+      (floor_found a b t n (λ z. absurd (omega ints)) (omega (ints, apart b, parts_of, plus (t *ℤ b) (rem_z a b), plus (t *ℤ b) b)))
 
 -- a near number turned by the machine
 pub turn : (z : ℤ) → Near z → Holds (pos 0 -ℤ at z) (neg_ℤ z)
@@ -92,11 +121,10 @@ turn z h = made (ap (λ (x : ℤ). pos 0 -ℤ x) (rn z h) ∙ e) (let l = h in o
 pub read : {z w r : ℤ} → Is w r → w ≡ z → Is z (at r)
 read {z} {w} {r} i e = let k = rn r i.near in record { is = k ∙ i.is ∙ e; near = subst Near (sym k) i.near }
 
--- what a call with both signs turned asks, for a divisor below 0
-pub turned_asks : (a b : ℤ) → Near a → Near b → b <ℤ pos 0 → Near (at (pos 0 -ℤ at a)) × (Near (at (pos 0 -ℤ at b)) × (pos 0 <ℤ at (pos 0 -ℤ at b)))
-turned_asks a b h k l =
-    let i = (turn a h).is in
-    let j = (turn b k).is in
-    let h' = h in
-    let k' = k in
-    (omega (nears, neg_positive a, neg_negative a), (omega (nears, neg_positive b, neg_negative b), omega (nears, neg_positive b, neg_negative b)))
+-- rounded up: what rounding down gave for the other sign, turned
+pub turned : (a b : ℤ) {w r : ℤ} → Is w r → w ≡ floor_q (neg_ℤ a) b → Is (ceil_q a b) (at (pos 0 -ℤ at r))
+unfolding ceil_q
+turned a b {w} {r} i e =
+    let t = (turn r i.near).is in
+    let n = i.near in
+    record { is = t ∙ ap neg_ℤ (i.is ∙ e); near = subst Near (sym t) (omega (ints, neg_positive r, neg_negative r)) }

@@ -1,5 +1,5 @@
 // How often a range can be halved.
-ghost use Rattle.std.specs.Prelude.{◌≡◌, ℕ, ◌≤◌};
+ghost use Rattle.std.specs.Prelude.{◌≡◌, ◌≤◌};
 ghost use Rattle.whole.specs.Numbers.{least_power};
 ghost use Rattle.whole.specs.Ranges.{values};
 ghost use Rattle.whole.specs.inner.Held.{Good};
@@ -10,5 +10,5 @@ pub fn halvings(r: crate::Range) -> usize
     ensures { (result ≡ least_power (values r)) × (result ≤ 41) }
 {
     let wide = (r.high - r.low) as u64;
-    (64 - u64::leading_zeros(wide)) as usize
+    (64 - wide.leading_zeros()) as usize
 }

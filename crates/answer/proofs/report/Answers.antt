@@ -1,6 +1,6 @@
 -- Each answer has its first line, and where a point is given its value lines behind it.
 use Rattle.answer.proofs.Writing.{puts_as, puts_then}
-use Rattle.answer.proofs.Reporting.{report_none, report_found, report_stopped, report_refused}
+use Rattle.answer.proofs.Reporting.{report_none, report_found, report_stopped}
 use Rattle.answer.proofs.report.Goals as goal
 
 pub returns-in-None : goal.returns-in-None
@@ -15,8 +15,3 @@ pub returns-in-Stopped : goal.returns-in-Stopped
 returns-in-Stopped c =
     let first = c in
     puts_as _ _ (report_stopped _ _ _ _ first.in-Stopped.is) (puts_then _ _ first.counted-next-in-Stopped.ensures c.lines-in-Stopped.ensures)
-
-pub returns-in-Refused : goal.returns-in-Refused
-returns-in-Refused c =
-    let ground = c in
-    puts_as _ _ (report_refused _ _ _ _ _ _ ground.in-Refused.is ground.solve_ground.ensures) c.refused.ensures

@@ -1,21 +1,18 @@
--- The solve gets a point buffer of just n zeros and the whole workspace; of what it leaves the declared values are written.
-use mathlib.Core.Path.{◌≡◌, refl, sym, ◌∙◌}
-use Prim.Native.Nat.{◌/◌}
+-- What the solve answers or refuses is reported, and its declared values are written.
+use mathlib.Core.Path.{◌∙◌}
 use native.Mathlib.Omega.{arith}
-use lib.IntN.{pos}
-use lib.ListN.{length, drop, replicate}
 use mir.Facts.{to_z_pos}
 use mir.Syntax.{w64}
-use mir.Val.{to_z}
 use Rattle.answer.proofs.Writing.{puts_as}
-use Rattle.answer.proofs.Reporting.{zeros, zeros_length, report_on_lem}
+use Rattle.answer.proofs.Reporting.{report_answered, report_refused, solve_reported}
 use Rattle.answer.proofs.solved.Goals as goal
 
-pub returns : goal.returns
-returns c =
-    let n = length c.args.ranges.now / 2 in
-    let behind = drop n (replicate 128 (pos 0)) in
-    let kept : length c.solve-answer.new.point ≡ n = c.solve-answer.auto.point ∙ sym (zeros_length n 128 c.requires.few) in
-    let lead : to_z w64 (length c.args.names.now / 8) ≡ pos (length c.args.names.now / 8) = to_z_pos w64 (omega (arith, c.requires.few, c.requires.named)) in
-    puts_as _ _ (report_on_lem _ _ _ _ _ _ _ _ _ _ behind _ c.solve-answer.ensures lead (zeros n 128 c.requires.few) refl (omega (arith, kept, c.requires.named)))
-    c.report.ensures
+pub returns-in-Ok : goal.returns-in-Ok
+returns-in-Ok c =
+    let lead = to_z_pos w64 (omega (arith, c.requires.few, c.requires.named)) in
+    puts_as _ _ (report_answered _ _ _ _ c.in-Ok.is ∙ solve_reported _ _ _ _ _ _ _ _ _ c.requires lead c.solve-solved.auto.point c.solve-solved.ensures) c.report.ensures
+
+pub returns-in-Err : goal.returns-in-Err
+returns-in-Err c =
+    let lead = to_z_pos w64 (omega (arith, c.requires.few, c.requires.named)) in
+    puts_as _ _ (report_refused _ _ _ _ _ c.in-Err.is c.from.ensures ∙ solve_reported _ _ _ _ _ _ _ _ _ c.requires lead c.solve-solved.auto.point c.solve-solved.ensures) c.refused.ensures

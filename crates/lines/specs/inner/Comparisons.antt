@@ -1,5 +1,6 @@
 -- For the code: comparisons behind one another, read and listed.
-use Rattle.std.specs.Prelude.{◌≡◌, Bool, true, false, cond, List, [], ◌∷◌, map, ℕ, ◌+◌, ◌*◌, ◌≤◌, ◌<◌, eqb, ℤ, length}
+use Rattle.std.specs.Prelude as code
+use Rattle.std.specs.Prelude.{◌≡◌, cond, List, [], ◌∷◌, map, ℕ, ◌+◌, ◌*◌, ◌≤◌, ◌<◌, eqb, ℤ, length, Some, None}
 use Rattle.std.proofs.Math.Option.{Option, none, some}
 use Rattle.sheet.specs.Grammar.{Comparison}
 use Rattle.sheet.specs.Reading.{Read}
@@ -9,14 +10,15 @@ use Rattle.sheet.specs.declared.Sign.{Sign}
 use Rattle.meaning.specs.Plain.{Asked, plain_e, opposite}
 use Rattle.meaning.specs.Translation.{Turn, first, second}
 use Rattle.lines.specs.inner.Emission.{emitted, Listing, list_all}
+use Rattle.lines.specs.declared.parts.Clause.{Clause}
+use Rattle.lines.specs.declared.parts.Clause.TheVariants.{First, Second}
 use Rattle.lines.specs.declared.parts.Tally.{Tally}
 use Rattle.lines.specs.declared.parts.Listed.{Listed}
-use Rattle.lines.specs.declared.parts.Listed.TheVariants.{At, Not}
 
 -- which clause
-abbrev pub turn_of : Bool → Turn
-turn_of false = first
-turn_of true = second
+abbrev pub turn_of : Clause → Turn
+turn_of First = first
+turn_of Second = second
 
 -- what is asked where comparisons stand with the mark with number m between them: between `and` the opposite
 abbrev pub turned_by : ℕ → Sign → Sign
@@ -38,13 +40,13 @@ listing_of t rs ps fs ss =
     record { ranges = rs; primitives = ps; firsts = fs; seconds = ss; making = t.making; count = t.count; equals = t.equals }
 
 -- what the code's answer says was listed and is left
-abbrev pub listing_as : List ℕ → Listed → List ℤ → List ℤ → List ℤ → List ℤ → Option (Listing × List Token)
-listing_as l (At n t) rs ps fs ss = some (listing_of t rs ps fs ss, tokens_from l n)
-listing_as l Not rs ps fs ss = none
+abbrev pub listing_as : List ℕ → code.Option Listed → List ℤ → List ℤ → List ℤ → List ℤ → Option (Listing × List Token)
+listing_as l (Some t) rs ps fs ss = some (listing_of t.tally rs ps fs ss, tokens_from l t.next)
+listing_as l None rs ps fs ss = none
 
 -- the answer is the reading f, at every bound that is large enough, with what it asks listed; and a part that was read is not empty
 pub record Lists
     {A : Type 0} (f : ℕ → List Token → Read A) (asks : A → List Asked) (d : ℕ) (l : List ℕ) (at : ℕ) (a : Listing)
-    (r : Listed) (rs ps fs ss : List ℤ) : Type 0 where
+    (r : code.Option Listed) (rs ps fs ss : List ℤ) : Type 0 where
   pub agrees : (k : ℕ) → 8 * length (tokens_from l at) + 6 ≤ k → listing_as l r rs ps fs ss ≡ emitted (λ x. list_all d (asks x) a) (f k (tokens_from l at))
-  pub falls : (n : ℕ) (t : Tally) → r ≡ At n t → length (tokens_from l n) < length (tokens_from l at)
+  pub falls : (t : Listed) → r ≡ Some t → length (tokens_from l t.next) < length (tokens_from l at)

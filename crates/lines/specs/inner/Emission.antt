@@ -1,7 +1,8 @@
 -- For the code: what reading an expression writes into lists of fixed size. Everything is total: a number that has no place is not
 -- written, counts stop at a limit above every size that is accepted, and a range that cannot be computed with is replaced by [0, 0].
 -- proofs/ExactPiece.antt ties this to Translation.antt for sheets within the grounds.
-use Rattle.std.specs.Prelude.{◌≡◌, cond, ◌||◌, List, [], ◌∷◌, ℕ, ◌+◌, ◌*◌, ◌≤◌, ◌<◌, leb, ltb, ℤ, pos, length, set}
+use Rattle.std.specs.Prelude as code
+use Rattle.std.specs.Prelude.{◌≡◌, cond, ◌||◌, List, [], ◌∷◌, ℕ, ◌+◌, ◌*◌, ◌≤◌, ◌<◌, leb, ltb, ℤ, pos, length, set, Some, None}
 use Rattle.std.proofs.Math.Option.{Option, none, some}
 use Rattle.whole.specs.Ranges.{range, square_span}
 use Rattle.whole.specs.inner.Held.{Good}
@@ -22,10 +23,8 @@ use Rattle.meaning.specs.Translation.{span_for, equation, gap_of, first, second,
 use Rattle.lines.specs.declared.parts.Making.{Making}
 use Rattle.lines.specs.declared.parts.Held.{Held}
 use Rattle.lines.specs.declared.parts.Emitted.{Emitted}
-use Rattle.lines.specs.declared.parts.Ruled.{Ruled}
-use Rattle.lines.specs.declared.parts.Ruled.TheVariants.{Done, Unread}
 use Rattle.lines.specs.declared.parts.Made.{Made}
-use Rattle.lines.specs.declared.parts.Made.TheVariants.{At, Not}
+use Rattle.lines.specs.declared.parts.Tally.{Tally}
 
 -- one more, up to the limit
 abbrev pub bump : ℕ → ℕ
@@ -120,9 +119,9 @@ emitted f none = none
 emitted f (some p) = some (f p.0, p.1)
 
 -- what the code's answer says was written and is left
-abbrev pub made_as : List ℕ → Made → List ℤ → List ℤ → Option (Emit × List Token)
-made_as l (At n h m) rs ps = some (record { ranges = rs; primitives = ps; making = m; held = h }, tokens_from l n)
-made_as l Not rs ps = none
+abbrev pub made_as : List ℕ → code.Option Made → List ℤ → List ℤ → Option (Emit × List Token)
+made_as l (Some m) rs ps = some (emitted_as m.emitted rs ps, tokens_from l m.next)
+made_as l None rs ps = none
 
 -- a span that can be computed with
 abbrev pub GoodHeld : Held → Type 0
@@ -130,10 +129,10 @@ GoodHeld h = Good h.span
 
 pub record Makes
     {A : Type 0} (f : ℕ → List Token → Read A) (plain : A → Tree) (rank d : ℕ) (l : List ℕ) (at : ℕ) (m : Making) (rs ps : List ℤ)
-    (r : Made) (rs' ps' : List ℤ) : Type 0 where
+    (r : code.Option Made) (rs' ps' : List ℤ) : Type 0 where
   pub agrees : (k : ℕ) → 8 * length (tokens_from l at) + rank ≤ k → made_as l r rs' ps' ≡ emitted (λ a. emit d (plain a) rs ps m) (f k (tokens_from l at))
-  pub falls : (n : ℕ) (h : Held) (m' : Making) → r ≡ At n h m' → length (tokens_from l n) < length (tokens_from l at)
-  pub good : (n : ℕ) (h : Held) (m' : Making) → r ≡ At n h m' → GoodHeld h
+  pub falls : (m' : Made) → r ≡ Some m' → length (tokens_from l m'.next) < length (tokens_from l at)
+  pub good : (m' : Made) → r ≡ Some m' → GoodHeld m'.emitted.held
 
 -- ---- comparisons: what they write into the lists, and their literals into two clauses, as many in the one as in the other
 pub record Listing : Type 0 where
@@ -174,15 +173,15 @@ list_all d [] a = a
 list_all d (x ∷ xs) a = list_all d xs (listed x.sign (emit d (gap_of x) a.ranges a.primitives a.making) a)
 
 -- ---- rules: what the code's answer says was listed
-abbrev pub ruled_as : Ruled → List ℤ → List ℤ → List ℤ → List ℤ → Option Listing
-ruled_as (Done m c e) rs ps fs ss =
-    some (record { ranges = rs; primitives = ps; firsts = fs; seconds = ss; making = m; count = c; equals = e })
-ruled_as Unread rs ps fs ss = none
+abbrev pub ruled_as : code.Option Tally → List ℤ → List ℤ → List ℤ → List ℤ → Option Listing
+ruled_as (Some t) rs ps fs ss =
+    some (record { ranges = rs; primitives = ps; firsts = fs; seconds = ss; making = t.making; count = t.count; equals = t.equals })
+ruled_as None rs ps fs ss = none
 
 abbrev pub listed_from : List ℕ → Listing → Option Line → Option Listing
 listed_from names a none = none
 listed_from names a (some l) = some (list_all (length names) (asks_of names l) a)
 
 -- the answer is the reading f of a rule, at every bound that is large enough, with its comparisons listed
-pub record Rules (f : ℕ → Option Line) (names : List ℕ) (size : ℕ) (a : Listing) (r : Ruled) (rs ps fs ss : List ℤ) : Type 0 where
+pub record Rules (f : ℕ → Option Line) (names : List ℕ) (size : ℕ) (a : Listing) (r : code.Option Tally) (rs ps fs ss : List ℤ) : Type 0 where
   pub agrees : (k : ℕ) → 8 * size + 8 ≤ k → ruled_as r rs ps fs ss ≡ listed_from names a (f k)

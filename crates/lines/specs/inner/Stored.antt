@@ -1,5 +1,5 @@
 -- For the code: the local lists hold the sheet as read so far, and what the answer to a line says of them.
-use Rattle.std.specs.Prelude.{◌≡◌, Bool, true, false, cond, List, [], ◌++◌, ℕ, ◌+◌, ◌*◌, ◌≤◌, eqb, ℤ, pos, length, take, replicate}
+use Rattle.std.specs.Prelude.{◌≡◌, Bool, true, false, cond, List, [], ◌++◌, ℕ, ◌+◌, ◌*◌, ◌≤◌, eqb, ℤ, pos, length, take, replicate, Result, Ok, Err}
 use Rattle.std.proofs.Math.Option.{Option}
 use Rattle.whole.specs.Lists.{AllOf}
 use Rattle.whole.specs.inner.Held.{Good}
@@ -10,10 +10,9 @@ use Rattle.meaning.specs.Translation.{nothing}
 use Rattle.meaning.specs.Lists.{range_list, primitive_list, length_list, literals_in, literal_list}
 use Rattle.meaning.specs.Draft.{Draft, quantities_in}
 use Rattle.meaning.specs.Grounds.{Outcome, refused, read, top_of, line_outcome, one_line}
+use Rattle.meaning.specs.declared.Refusal.{Refusal}
 use Rattle.lines.specs.declared.parts.Making.{Making}
 use Rattle.lines.specs.declared.parts.Progress.{Progress}
-use Rattle.lines.specs.declared.parts.Lined.{Lined}
-use Rattle.lines.specs.declared.parts.Lined.TheVariants as lined
 
 -- ---- what is held
 -- the lists' fronts are the sheet's, with the counts of a progress
@@ -65,13 +64,14 @@ pub record Holds (o : Outcome) (g : Progress) (rs ps ns ls : List ℤ) (keys : L
 
 -- ---- a line
 -- what the answer to line k says of its outcome
-abbrev pub LineSays : ℕ → Outcome → List ℤ → List ℤ → List ℤ → List ℤ → List ℕ → Lined → Type 0
-LineSays k o rs ps ns ls keys (lined.Next g) = Holds o g rs ps ns ls keys
-LineSays k o rs ps ns ls keys (lined.Refused g) = o ≡ refused g k
+abbrev pub LineSays : ℕ → Outcome → List ℤ → List ℤ → List ℤ → List ℤ → List ℕ → Result Progress Refusal → Type 0
+LineSays k o rs ps ns ls keys (Ok g) = Holds o g rs ps ns ls keys
+LineSays k o rs ps ns ls keys (Err g) = o ≡ refused g k
 
 -- the answer to a line, whatever sheet was held before it and whatever its number; f gives the outcome
 pub record Answers
-    (f : Draft → ℕ → Outcome) (g : Progress) (rs₀ ps₀ ns₀ ls₀ : List ℤ) (keys₀ : List ℕ) (rs ps ns ls : List ℤ) (keys : List ℕ) (r : Lined)
+    (f : Draft → ℕ → Outcome) (g : Progress) (rs₀ ps₀ ns₀ ls₀ : List ℤ) (keys₀ : List ℕ) (rs ps ns ls : List ℤ) (keys : List ℕ)
+    (r : Result Progress Refusal)
     : Type 0 where
   pub says : (s : Draft) (k : ℕ) → Stored s g rs₀ ps₀ ns₀ ls₀ keys₀ → Proper s → LineSays k (f s k) rs ps ns ls keys r
 

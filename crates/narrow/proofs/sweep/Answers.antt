@@ -1,9 +1,13 @@
--- `narrow::sweep` meets its contract: the steps of the clauses follow those of the primitives, and where these leave an empty range nothing follows.
-use Rattle.narrow.proofs.Sweeping.{sweep_empty, sweep_both}
+-- `narrow::sweep` meets its contract: each status says what the steps came to.
+use mathlib.Core.Path.{refl}
+use Rattle.narrow.proofs.Sweeping.{sweep_done}
 use Rattle.narrow.proofs.sweep.Goals as goal
 
-pub returns-in-Empty : goal.returns-in-Empty
-returns-in-Empty c = sweep_empty c.sweep_primitives-status.ensures c.in-Empty.is
+pub returns-in-Err : goal.returns-in-Err
+returns-in-Err c = sweep_done c.in-Err.ensures refl
 
-pub returns : goal.returns
-returns c = sweep_both c.sweep_primitives-status.ensures c.sweep_clauses.ensures
+pub returns-in-Ok-true : goal.returns-in-Ok-true
+returns-in-Ok-true c = sweep_done c.in-Ok-true.ensures (rw c.in-Ok-true.field-0-test refl)
+
+pub returns-in-Ok-false : goal.returns-in-Ok-false
+returns-in-Ok-false c = sweep_done c.in-Ok-false.ensures (rw c.in-Ok-false.field-0-test refl)

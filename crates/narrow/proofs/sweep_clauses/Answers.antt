@@ -1,67 +1,36 @@
--- `narrow::sweep_clauses` meets its contract. The invariant: the steps of the clauses from place i on, from the box in hand, come to what all steps come to, and the literals from `from` on are theirs. The measure is the clauses left.
-use mathlib.Core.Path.{◌≡◌, ap}
-use mathlib.Core.List.{List}
-use Prim.Native.Nat.{ℕ, ◌+◌, ◌*◌, ◌≤◌, ◌<◌}
-use lib.ListN.{length, get_or}
-use lib.IntN.{ℤ, pos, nat_abs}
-use Rattle.whole.proofs.Kit.{ints, at, got, index}
-use Rattle.problem.proofs.Placing.{left_sign}
-use Rattle.narrow.proofs.Sweeping.{going_on, going_end, going_empty, clauses_on, clauses_none, ahead_room, ahead_on, ahead_lits}
+-- `narrow::sweep_clauses` meets its contract: the literals left have room for the clause in hand, whose step is taken off the front of those that are left, and none is left at the end.
+use Rattle.narrow.proofs.Kept.{kept_then}
+use Rattle.whole.proofs.Kit.{ints}
+use Rattle.narrow.proofs.Sweeping.{going_on, going_end, going_empty, clauses_on, clauses_none, ahead_cast, ahead_room, ahead_fits, ahead_on, ahead_lits}
 use native.Mathlib.Omega.{arith}
 use Rattle.narrow.proofs.sweep_clauses.Goals as goal
 
--- the clause at place i
-module _ (c : goal.After-length-1) where
-  abbrev ns : List ℤ
-  ns = c.args.lengths.now
+pub overflow_cast-length : goal.overflow_cast-length
+overflow_cast-length c = ahead_cast c.loop-length.invariant.0 (omega arith) (omega ints)
 
-  abbrev i : ℕ
-  i = c.loop-i.i
+pub overflow_mul-length : goal.overflow_mul-length
+overflow_mul-length c = omega (arith, ahead_fits c.loop-length.invariant.0 (omega arith) (omega ints))
 
-  abbrev m : ℕ
-  m = nat_abs (at (get_or ns i (pos 0)))
+pub split_at-requires : goal.split_at-requires
+split_at-requires c = ahead_room c.loop-length.invariant.0 (omega arith) (omega ints)
 
-  m_is : m ≡ nat_abs (get_or ns i (pos 0))
-  m_is = ap nat_abs (got (get_or ns i (pos 0)) (omega ints))
+pub narrow-requires : goal.narrow-requires
+narrow-requires c =
+    let e = c.split_at.ensures in
+    let k = c.loop-length.invariant.1.0.size in
+    ahead_lits c.loop-length.invariant.0 (omega arith) (omega ints) e.front e.back c.loop-length.frame.ends.now (omega arith)
 
-  here : i < length ns
-  here = omega arith
+pub returns-in_err-changed : goal.returns-in_err-changed
+returns-in_err-changed c =
+    let a = c.loop-length.invariant in
+    let e = c.split_at.ensures in
+    record { kept = kept_then c.loop-length.invariant.1.0 c.in_err-changed.ensures.kept; done = going_empty a.1.1 _ (clauses_on a.0 (omega arith) (omega ints) e.front e.back) c.in_err-changed.ensures.done c.from_residual.ensures.0 }
 
-  room : c.loop-i.from + 3 * m ≤ length c.args.literals.now
-  room = ahead_room c.loop-i.invariant.0 here m m_is
-
-pub overflow_cast-next : goal.overflow_cast-next
-overflow_cast-next c = index (get_or (ns c) (i c) (pos 0)) (record { sfits = omega ints }) (left_sign c.loop-i.invariant.0.left (here c))
-
-pub overflow_mul-next : goal.overflow_mul-next
-overflow_mul-next c = omega (arith, room c)
-
-pub overflow_add-next : goal.overflow_add-next
-overflow_add-next c = omega (arith, room c)
-
-pub offset_bounds-literals-from : goal.offset_bounds-literals-from
-offset_bounds-literals-from c = omega (arith, room c.before)
-
-pub slice_bounds-narrow-end : goal.slice_bounds-narrow-end
-slice_bounds-narrow-end c = omega (arith, room c.before)
-
-pub narrow-status-requires-clause-fact_2 : goal.narrow-status-requires-clause-fact_2
-narrow-status-requires-clause-fact_2 c =
-    let k = c.before.before in
-    let g = c.loop-i.invariant.1 in
-    ahead_lits c.loop-i.invariant.0 (here k) (m k) (m_is k) c.loop-i.b (omega arith)
-
-pub returns-in-Empty : goal.returns-in-Empty
-returns-in-Empty c =
-    let k = c.before.before.before.before.before in
-    let s = c.narrow-status in
-    going_empty (going_on c.loop-i.invariant.1 (clauses_on c.loop-i.invariant.0 (here k) (m k) (m_is k)) s.ensures s.auto.b) c.in-Empty.is
-
-pub loop-i-preserved : goal.loop-i-preserved
-loop-i-preserved c =
-    let k = c.before.before.before.before.before in
-    let s = c.narrow-status in
-    (ahead_on c.loop-i.invariant.0 (here k) (m k) (m_is k), going_on c.loop-i.invariant.1 (clauses_on c.loop-i.invariant.0 (here k) (m k) (m_is k)) s.ensures s.auto.b)
+pub loop-length-preserved : goal.loop-length-preserved
+loop-length-preserved c =
+    let a = c.loop-length.invariant in
+    let e = c.split_at.ensures in
+    (ahead_on a.0 (omega arith) (omega ints) e.front e.back, (kept_then a.1.0 c.in_ok-changed.ensures.kept, going_on a.1.1 (clauses_on a.0 (omega arith) (omega ints) e.front e.back) c.in_ok-changed.ensures.done c.in_ok-changed.ensures.kept.size))
 
 pub returns : goal.returns
-returns c = going_end c.loop-i.invariant.1 (clauses_none c.args.lengths.now c.args.literals.now c.loop-i.i c.loop-i.from (omega arith))
+returns c = record { kept = c.loop-length.invariant.1.0; done = going_end c.loop-length.invariant.1.1 (clauses_none c.args.problem.lengths.now c.loop-length.length-index c.loop-length.left.now (omega arith)) }

@@ -1,27 +1,26 @@
--- `narrow::sweep_primitives` meets its contract. The invariant: the steps of the primitives from place i on, from the box in hand, come to what all steps come to. The measure is the primitives left.
+-- `narrow::sweep_primitives` meets its contract: a primitive's steps are taken off the front of those that are left, and none is left at the end.
+use Rattle.narrow.proofs.Kept.{kept_then}
 use Rattle.narrow.proofs.Sweeping.{going_on, going_end, going_empty, primitives_on, primitives_none, primitive_readable, primitive_sited}
 use native.Mathlib.Omega.{arith}
 use Rattle.narrow.proofs.sweep_primitives.Goals as goal
 
-pub primitive_at-p-requires : goal.primitive_at-p-requires
-primitive_at-p-requires c = primitive_readable c.requires.fact_2 c.loop-i.i (omega arith)
+pub primitive_at-requires : goal.primitive_at-requires
+primitive_at-requires c = primitive_readable c.requires c.loop-i.i (omega arith)
 
-pub narrow_primitive-status-requires-clause-fact_2 : goal.narrow_primitive-status-requires-clause-fact_2
-narrow_primitive-status-requires-clause-fact_2 c =
-    let g = c.loop-i.invariant.1 in
-    primitive_sited c.requires.fact_2 c.loop-i.i (omega arith) c.loop-i.b (omega arith) c.primitive_at-p.result c.primitive_at-p.ensures
+pub narrow_primitive-requires : goal.narrow_primitive-requires
+narrow_primitive-requires c =
+    let g = c.loop-i.invariant.0.size in
+    primitive_sited c.requires c.loop-i.i (omega arith) c.loop-i.frame.ends.now (omega arith) c.primitive_at.result c.primitive_at.ensures
 
-pub returns-in-Empty : goal.returns-in-Empty
-returns-in-Empty c =
-    let p = c.primitive_at-p in
-    let s = c.narrow_primitive-status in
-    going_empty (going_on c.loop-i.invariant.1 (primitives_on c.args.primitives.now c.loop-i.i p.result p.ensures (omega arith)) s.ensures s.auto.b) c.in-Empty.is
+pub returns-in_err-changed : goal.returns-in_err-changed
+returns-in_err-changed c =
+    let p = c.primitive_at in
+    record { kept = kept_then c.loop-i.invariant.0 c.in_err-changed.ensures.kept; done = going_empty c.loop-i.invariant.1 _ (primitives_on c.args.problem.primitives.now c.loop-i.i p.result p.ensures (omega arith)) c.in_err-changed.ensures.done c.from_residual.ensures.0 }
 
 pub loop-i-preserved : goal.loop-i-preserved
 loop-i-preserved c =
-    let p = c.primitive_at-p in
-    let s = c.narrow_primitive-status in
-    (omega arith, going_on c.loop-i.invariant.1 (primitives_on c.args.primitives.now c.loop-i.i p.result p.ensures (omega arith)) s.ensures s.auto.b)
+    let p = c.primitive_at in
+    (kept_then c.loop-i.invariant.0 c.in_ok-changed.ensures.kept, going_on c.loop-i.invariant.1 (primitives_on c.args.problem.primitives.now c.loop-i.i p.result p.ensures (omega arith)) c.in_ok-changed.ensures.done c.in_ok-changed.ensures.kept.size)
 
 pub returns : goal.returns
-returns c = going_end c.loop-i.invariant.1 (primitives_none c.args.primitives.now c.loop-i.i (omega arith))
+returns c = record { kept = c.loop-i.invariant.0; done = going_end c.loop-i.invariant.1 (primitives_none c.args.problem.primitives.now c.loop-i.i (omega arith)) }

@@ -1,5 +1,6 @@
 -- For the code: boxes that can be computed with, and what a function that does some steps says and leaves.
-use Rattle.std.specs.Prelude.{◌≡◌, List, ℕ, ◌+◌, ◌*◌, ◌<◌, length, ◌≤ℤ◌, ◌<ℤ◌}
+use Rattle.std.specs.Prelude.{◌≡◌, Bool, true, false, Result, Ok, Err, List, ℕ, ◌+◌, ◌*◌, ◌<◌, length, ◌≤ℤ◌, ◌<ℤ◌}
+use Rattle.std.specs.Borrow.{MutBor}
 use Rattle.whole.specs.inner.Held.{Good}
 use Rattle.whole.specs.declared.Range.{Range}
 use Rattle.problem.specs.Problem.{Box, range_at}
@@ -10,6 +11,7 @@ use Rattle.narrow.specs.Cuts.{put_at, Swept, empty, changed, unchanged, Step, st
 use Rattle.narrow.specs.Sweep.{sweep_of}
 use Rattle.narrow.specs.declared.Status.{Status}
 use Rattle.narrow.specs.declared.Status.TheVariants.{Empty, Changed, Same}
+use Rattle.narrow.specs.declared.Emptied.{Emptied}
 
 -- the box has the quantity
 abbrev pub Has : Box → ℕ → Type 0
@@ -31,9 +33,9 @@ pub record Seen (b : Box) (q : ℕ) (r : Range) : Type 0 where
   pub good : Good r
 
 -- a range that was replaced: an empty one leaves the box, any other is written
-pub record Replaced (q : ℕ) (r : Range) (b₀ : Box) (s : Status) (b : Box) : Type 0 where
-  pub none : r.high <ℤ r.low → (s ≡ Empty) × (b ≡ b₀)
-  pub some : r.low ≤ℤ r.high → (s ≡ Changed) × (b ≡ put_at b₀ q r)
+pub record Replaced (q : ℕ) (r : Range) (b₀ : Box) (s : Result Bool Emptied) (b : Box) : Type 0 where
+  pub none : r.high <ℤ r.low → (s ≡ Err (record {})) × (b ≡ b₀)
+  pub some : r.low ≤ℤ r.high → (s ≡ Ok true) × (b ≡ put_at b₀ q r)
 
 -- a status, with the box it leaves
 abbrev pub swept_as : Status → Box → Swept
@@ -41,10 +43,27 @@ swept_as Empty b = empty
 swept_as Changed b = changed b
 swept_as Same b = unchanged b
 
--- steps done: what they come to, and that the box stays fine, also where it is empty and its contents no longer matter
-pub record Done (ss : List Step) (r₀ : Status) (b₀ : Box) (r : Status) (b : Box) : Type 0 where
-  pub says : swept_as r b ≡ steps (swept_as r₀ b₀) ss
+-- whether a range has changed, or that one is empty, with the box it leaves
+abbrev pub left_as : Result Bool Emptied → Box → Swept
+left_as (Err e) b = empty
+left_as (Ok true) b = changed b
+left_as (Ok false) b = unchanged b
+
+-- steps done, before which a range may have changed: what they come to, and that the box stays fine, also where it is empty and its contents no
+-- longer matter
+pub record Done (ss : List Step) (c₀ : Bool) (b₀ : Box) (r : Result Bool Emptied) (b : Box) : Type 0 where
+  pub says : left_as r b ≡ steps (left_as (Ok c₀) b₀) ss
   pub fine : Fine b
+
+-- a lent box that is still the same list of ends, as long as it was
+pub record Kept (m₀ m : MutBor Box) : Type 0 where
+  pub name : m.ghost_name ≡ m₀.ghost_name
+  pub size : length m.now ≡ length m₀.now
+
+-- steps done in a lent box
+pub record Narrowed (ss : List Step) (c₀ : Bool) (m₀ : MutBor Box) (r : Result Bool Emptied) (m : MutBor Box) : Type 0 where
+  pub kept : Kept m₀ m
+  pub done : Done ss c₀ m₀.now r m.now
 
 -- a sweep done: what it comes to, and that the box stays fine
 pub record Sweeps (ps : List Primitive) (cs : List (List Literal)) (b₀ : Box) (r : Status) (b : Box) : Type 0 where

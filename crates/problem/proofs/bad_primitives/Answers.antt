@@ -1,26 +1,15 @@
--- `problem::bad_primitives` meets its contract. The invariant: the list is judged as its rest from primitive i on. The measure is the primitives left.
-use mathlib.Core.Path.{refl}
-use Rattle.problem.proofs.Scanning.{primitives_hit, primitives_turn, primitives_done}
-use Rattle.whole.proofs.Kit.{got}
-use native.Mathlib.Omega.{arith}
+-- `problem::bad_primitives` meets its contract: each four numbers are tested as a primitive.
+use mathlib.Core.Path.{◌∙◌}
+use Prim.Native.Nat.{◌/◌}
+use lib.ListN.{length}
+use Rattle.std.proofs.Common.{rules, tests}
+use Rattle.std.proofs.lemmas.Iterator.{YieldsList-from_slice}
+use Rattle.std.proofs.lemmas.Iterator.Search.{any_from_yields_List}
+use Rattle.std.specs.Simd.{first_chunks}
+use Rattle.problem.proofs.Groups.{bad_four, by_fours}
 use Rattle.problem.proofs.bad_primitives.Goals as goal
 
-pub loop-i-init : goal.loop-i-init
-loop-i-init c = (omega arith, refl)
-
-pub returns-then-bad_primitive : goal.returns-then-bad_primitive
-returns-then-bad_primitive c =
-    let s = c.before.before.before.before.before.before.before.before in
-    let l = c.loop-i in
-    primitives_hit s.args.n s.args.primitives.now l.i l.invariant.1 (omega arith) (got _ c.kind-1.given) (got _ c.z-1.given) (got _ c.x-1.given) (got _ c.y-1.given) c.bad_primitive.ensures c.if-bad_primitive.true
-
-pub loop-i-preserved : goal.loop-i-preserved
-loop-i-preserved c =
-    let s = c.before.before.before.before.before.before.before.before in
-    let l = c.loop-i in (
-      omega arith,
-      primitives_turn s.args.n s.args.primitives.now l.i l.invariant.1 (omega arith) (got _ c.kind-1.given) (got _ c.z-1.given) (got _ c.x-1.given) (got _ c.y-1.given) c.bad_primitive.ensures c.if-bad_primitive.false,
-    )
-
 pub returns : goal.returns
-returns c = primitives_done c.args.n c.args.primitives.now c.loop-i.i c.loop-i.invariant.1 (omega arith)
+returns c =
+    let ps = c.args.primitives.now in
+    any_from_yields_List (bad_four c.args.n) _ _ _ c.any.ensures.ran (YieldsList-from_slice (first_chunks 4 (length ps / 4) ps) cc) (λ x b q k. search (rules, tests)) ∙ by_fours c.args.n ps

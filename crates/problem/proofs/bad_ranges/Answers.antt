@@ -1,23 +1,15 @@
--- `problem::bad_ranges` meets its contract. The invariant: the list is judged as its rest from range q on. The measure is the ranges left.
-use Rattle.problem.proofs.Scanning.{ranges_hit, ranges_turn, ranges_done}
-use mathlib.Core.Path.{refl}
-use Rattle.whole.proofs.Kit.{got}
-use native.Mathlib.Omega.{arith}
+-- `problem::bad_ranges` meets its contract: each two numbers are tested as a range.
+use mathlib.Core.Path.{◌∙◌}
+use Prim.Native.Nat.{◌/◌}
+use lib.ListN.{length}
+use Rattle.std.proofs.Common.{rules, tests}
+use Rattle.std.proofs.lemmas.Iterator.{YieldsList-from_slice}
+use Rattle.std.proofs.lemmas.Iterator.Search.{any_from_yields_List}
+use Rattle.std.specs.Simd.{first_chunks}
+use Rattle.problem.proofs.Groups.{bad_two, by_twos}
 use Rattle.problem.proofs.bad_ranges.Goals as goal
 
-pub loop-q-init : goal.loop-q-init
-loop-q-init c = (omega arith, refl)
-
-pub returns-then-bad_range : goal.returns-then-bad_range
-returns-then-bad_range c =
-    let s = c.before.before.before.before.before.before in
-    ranges_hit s.args.ranges.now c.loop-q.q c.loop-q.invariant.1 (omega arith) (got _ c.bad_range-arg-1.given) (got _ c.bad_range-arg-in-loop-q-1.given) c.bad_range.ensures c.if-bad_range.true
-
-pub loop-q-preserved : goal.loop-q-preserved
-loop-q-preserved c = let s = c.before.before.before.before.before.before in (
-  omega arith,
-  ranges_turn s.args.ranges.now c.loop-q.q c.loop-q.invariant.1 (omega arith) (got _ c.bad_range-arg-1.given) (got _ c.bad_range-arg-in-loop-q-1.given) c.bad_range.ensures c.if-bad_range.false,
-)
-
 pub returns : goal.returns
-returns c = ranges_done c.args.ranges.now c.loop-q.q c.loop-q.invariant.1 (omega arith)
+returns c =
+    let rs = c.args.ranges.now in
+    any_from_yields_List bad_two _ _ _ c.any.ensures.ran (YieldsList-from_slice (first_chunks 2 (length rs / 2) rs) cc) (λ x b q k. search (rules, tests)) ∙ by_twos rs

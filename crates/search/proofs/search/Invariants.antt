@@ -11,7 +11,7 @@ use Rattle.search.proofs.search.Given as goal
 
 abbrev pub invariant-loop-left : goal.invariant-loop-left
 invariant-loop-left l =
-    Held (sweep_of (primitives_of l.primitives) (clauses_of l.lengths (literals_of l.literals))) (lowest (quantities l.ranges)) (quantities l.ranges) l.leading (length l.ranges) l.ranges (search_of (problem_of l.ranges l.primitives l.lengths l.literals) l.budget) l.initial.work l.work l.left l.waiting
+    Held (sweep_of (primitives_of l.problem.primitives.now) (clauses_of l.problem.lengths.now (literals_of l.problem.literals.now))) (lowest (quantities l.problem.ranges.now)) (quantities l.problem.ranges.now) l.leading (length l.problem.ranges.now) l.problem.ranges.now (search_of (problem_of l.problem.ranges.now l.problem.primitives.now l.problem.lengths.now l.problem.literals.now) l.budget) l.initial.work l.work l.left l.waiting
     × (l.point ≡ l.initial.point) × (l.left ≤ l.budget)
 
 abbrev pub decreases-loop-left : goal.decreases-loop-left

@@ -6,9 +6,6 @@ use Rattle.whole.specs.Meaning.{Middle}
 use Rattle.whole.proofs.Meaning.{middle_only}
 use Rattle.whole.proofs.middle.Goals as goal
 
-pub overflow_add-result : goal.overflow_add-result
-overflow_add-result c = (near_sum c.args.low c.args.high c.requires.fact_1 c.requires.fact_2).fits
-
 pub returns : goal.returns
 returns c =
     let l = c.args.low in

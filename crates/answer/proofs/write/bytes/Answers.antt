@@ -1,18 +1,9 @@
 -- Each turn puts the first of the bytes that are left.
-use native.Mathlib.Omega.{arith}
-use Rattle.answer.proofs.Writing.{left_start, left_more, left_none, from_here, past_end}
+use Rattle.answer.proofs.Writing.{left_more, left_none, from_here, past_end}
 use Rattle.answer.proofs.write.bytes.Goals as goal
 
-pub loop-i-init : goal.loop-i-init
-loop-i-init c = (omega arith, omega arith, left_start _ _ _)
-
-pub byte-next-requires : goal.byte-next-requires
-byte-next-requires c = tt
-
-pub loop-i-preserved : goal.loop-i-preserved
-loop-i-preserved c =
-    let a = c in
-    (omega arith, omega (arith, c.byte-next.auto.out), left_more _ (from_here _ _ a.loop-i-test.true) a.loop-i.invariant.2 c.byte-next.ensures)
+pub loop-b-preserved : goal.loop-b-preserved
+loop-b-preserved c = left_more _ (from_here _ _ c.loop-b-test.true) c.loop-b.invariant c.byte-next.ensures
 
 pub returns : goal.returns
-returns c = left_none _ (past_end _ _ c.loop-i-test.false) c.loop-i.invariant.2
+returns c = left_none _ (past_end _ _ c.loop-b-test.false) c.loop-b.invariant

@@ -1,13 +1,8 @@
 -- Each turn puts the first of the bytes that are left before the padding.
-use mathlib.Core.Path.{◌≡◌}
-use Prim.Native.Nat.{◌≤◌, ◌-◌}
-use lib.ListN.{length, drop}
+use lib.ListN.{drop}
 use Rattle.answer.specs.inner.Writing.{unpadded}
 use Rattle.answer.proofs.Writing.{Left}
 use Rattle.answer.proofs.write.name.Given as goal
 
-abbrev pub invariant-loop-i : goal.invariant-loop-i
-invariant-loop-i l = (l.i ≤ length l.bs) × (length l.out ≡ length l.initial.out) × Left (unpadded l.bs) l.initial.out l.at (unpadded (drop l.i l.bs)) l.out l.next
-
-abbrev pub decreases-loop-i : goal.decreases-loop-i
-decreases-loop-i l = length l.bs - l.i
+abbrev pub invariant-loop-b : goal.invariant-loop-b
+invariant-loop-b l = Left (unpadded l.bs) l.initial.out l.at (unpadded (drop l.b-index l.bs)) l.out l.next

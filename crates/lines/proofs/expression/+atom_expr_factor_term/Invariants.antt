@@ -19,14 +19,14 @@ decreases-factor l = 8 * length (tokens_from l.line.now l.at) + 2
 abbrev pub decreases-term : goal.decreases-term
 decreases-term l = 8 * length (tokens_from l.line.now l.at) + 4
 
-abbrev pub invariant-expr-loop-s : goal.invariant-expr-loop-s
-invariant-expr-loop-s l = Going sum_f (plain_e l.keys) 5 (length l.keys) l.line l.initial.i l.initial.e l.initial.ranges l.initial.primitives l.i l.e l.ranges l.primitives
+abbrev pub invariant-expr-loop-mark : goal.invariant-expr-loop-mark
+invariant-expr-loop-mark l = Going sum_f (plain_e l.keys) 5 (length l.keys) l.line l.initial.left.next l.initial.left.emitted l.initial.equations.ranges l.initial.equations.primitives l.left.next l.left.emitted l.equations.ranges l.equations.primitives
 
-abbrev pub decreases-expr-loop-s : goal.decreases-expr-loop-s
-decreases-expr-loop-s l = length (tokens_from l.line l.i)
+abbrev pub decreases-expr-loop-mark : goal.decreases-expr-loop-mark
+decreases-expr-loop-mark l = length (tokens_from l.line l.left.next)
 
-abbrev pub invariant-term-loop-s : goal.invariant-term-loop-s
-invariant-term-loop-s l = Going prod_f (plain_t l.keys) 3 (length l.keys) l.line l.initial.i l.initial.e l.initial.ranges l.initial.primitives l.i l.e l.ranges l.primitives
+abbrev pub invariant-term-loop-step : goal.invariant-term-loop-step
+invariant-term-loop-step l = Going prod_f (plain_t l.keys) 3 (length l.keys) l.line l.initial.left.next l.initial.left.emitted l.initial.equations.ranges l.initial.equations.primitives l.left.next l.left.emitted l.equations.ranges l.equations.primitives
 
-abbrev pub decreases-term-loop-s : goal.decreases-term-loop-s
-decreases-term-loop-s l = length (tokens_from l.line l.i)
+abbrev pub decreases-term-loop-step : goal.decreases-term-loop-step
+decreases-term-loop-step l = length (tokens_from l.line l.left.next)

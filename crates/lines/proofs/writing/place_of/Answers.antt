@@ -1,16 +1,16 @@
--- `writing::place_of` meets its contract. The loop's invariant: the place of the name is `i` and its place in what is left.
-use native.Mathlib.Omega.{arith}
-use Rattle.lines.proofs.HelperCode.{place_here, place_on, place_none}
+-- `writing::place_of` meets its contract: the first of the names that is this one, or their number.
+use mathlib.Core.Path.{◌≡◌, ◌∙◌}
+use lib.Dec.{eqb}
+use Rattle.std.specs.Prelude.{position}
+use Rattle.std.proofs.Common.{rules}
+use Rattle.std.proofs.lemmas.Iterator.{YieldsList-from_slice}
+use Rattle.std.proofs.lemmas.Iterator.Search.{position_from_yields_List}
+use Rattle.lines.proofs.HelperCode.{place_found}
 use Rattle.lines.proofs.writing.place_of.Goals as goal
 
-pub loop-i-init : goal.loop-i-init
-loop-i-init c = (omega arith, omega arith)
-
-pub returns-then-keys-i : goal.returns-then-keys-i
-returns-then-keys-i c = place_here c.args.keys.now c.args.name c.loop-i.i c.loop-i-test.true c.if-keys-i.true c.loop-i.invariant.1
-
-pub loop-i-preserved : goal.loop-i-preserved
-loop-i-preserved c = (omega arith, place_on c.args.keys.now c.args.name c.loop-i.i c.loop-i-test.true c.if-keys-i.false c.loop-i.invariant.1)
-
 pub returns : goal.returns
-returns c = place_none c.args.keys.now c.args.name c.loop-i.i (omega arith) c.loop-i.invariant.1
+returns c =
+    let found : c.position.result ≡ position (λ k. eqb k c.args.name) c.args.keys.now =
+    position_from_yields_List (λ k. eqb k c.args.name) _ _ c.position.result c.position.ensures.ran (YieldsList-from_slice c.args.keys.now cc) (λ x b q k. search rules)
+    in
+    rw found at c.unwrap_or.ensures ∙ place_found c.args.name c.args.keys.now

@@ -1,21 +1,21 @@
--- `narrow::clause::narrow` meets its contract. The invariant: the positions read that are not false are none, or the one at `open`. The measure is the positions left.
-use Rattle.narrow.proofs.Reading.{read_false, read_open, read_many, clause_none, clause_one}
+-- `narrow::clause::narrow` meets its contract: a position more that is false changes nothing, the first that is not is kept, a second one ends the reading, and at the end none or the one kept decides.
+use Rattle.narrow.proofs.Kept.{same}
 use native.Mathlib.Omega.{arith}
+use Rattle.narrow.proofs.Reading.{read_false, read_open, read_many, clause_none, clause_one}
 use Rattle.narrow.proofs.clause.narrow.Goals as goal
-use Rattle.narrow.proofs.clause.narrow.Goals.{then-not-is_false+else-open-n, else-not-is_false}
+use Rattle.narrow.proofs.clause.narrow.Goals.{then-not-is_false+else-is_some, else-not-is_false}
 
-pub returns-then-open-n : goal.returns-then-open-n
-returns-then-open-n c =
-    read_many c.requires.fact_2 c.loop-k.invariant c.loop-k-test.true c.literal_at.ensures c.is_false.ensures c.args.prior c.requires.fact_1 c.if-not-is_false.true (omega arith)
+pub returns-then-is_some : goal.returns-then-is_some
+returns-then-is_some c =
+    record { kept = same; done = read_many c.requires (omega arith) c.literal_at.ensures c.loop-k.open c.loop-k.invariant c.args.changed c.args.frame.now.fine c.if-not-is_false.ensures c.if-is_some.ensures }
 
 pub loop-k-preserved : goal.loop-k-preserved
 loop-k-preserved c =
     let x = c.literal_at in
-    let f = c.is_false in
-    elim c.if-not-is_false.branch [ then-not-is_false+else-open-n w ↦ rw w.open-is (read_open c.requires.fact_2 c.loop-k.invariant c.loop-k-test.true x.ensures f.ensures w.if-not-is_false.true (omega arith)) | else-not-is_false w ↦ rw w.open-is (read_false c.requires.fact_2 c.loop-k.invariant c.loop-k-test.true x.ensures f.ensures w.if-not-is_false.false) ]
+    elim c.if-not-is_false.branch [ then-not-is_false+else-is_some w ↦ rw w.open-is (read_open c.requires (omega arith) x.ensures c.loop-k.open c.loop-k.invariant w.if-not-is_false.ensures w.if-is_some.ensures) | else-not-is_false w ↦ rw w.open-is (read_false c.requires (omega arith) x.ensures c.loop-k.open c.loop-k.invariant w.if-not-is_false.ensures) ]
 
-pub returns-then-open-n-2 : goal.returns-then-open-n-2
-returns-then-open-n-2 c = clause_none c.requires.fact_2 c.loop-k.invariant c.loop-k-test.false c.args.prior c.requires.fact_1 (omega arith)
+pub returns-in-None : goal.returns-in-None
+returns-in-None c = record { kept = same; done = clause_none c.requires (omega arith) c.args.changed c.args.frame.now.fine (rw c.in-None.is at c.loop-k.invariant) }
 
-pub returns : goal.returns
-returns c = clause_one c.requires.fact_2 c.loop-k.invariant c.loop-k-test.false c.args.prior (omega arith) c.literal_at-2.ensures c.cut_literal.ensures
+pub returns-in-Some : goal.returns-in-Some
+returns-in-Some c = record { kept = c.cut_literal.ensures.kept; done = clause_one c.requires (omega arith) c.args.changed (rw c.in-Some.is at c.loop-k.invariant) c.literal_at-in-Some.ensures c.cut_literal.ensures.done }

@@ -1,10 +1,6 @@
--- `narrow::clause::narrow` meets its contract. The invariant: the positions read that are not false are none, or the one at `open`. The measure is the positions left.
-use Prim.Native.Nat.{◌-◌}
+-- `narrow::clause::narrow` meets its contract. The invariant: the positions read that are not false are none, or the one at `open`.
 use Rattle.narrow.proofs.Reading.{Read}
 use Rattle.narrow.proofs.clause.narrow.Given as goal
 
 abbrev pub invariant-loop-k : goal.invariant-loop-k
-invariant-loop-k l = Read l.b l.literals l.n l.open l.k
-
-abbrev pub decreases-loop-k : goal.decreases-loop-k
-decreases-loop-k l = l.n - l.k
+invariant-loop-k l = Read l.frame.ends.now l.literals l.open l.k

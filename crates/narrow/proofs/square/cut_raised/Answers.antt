@@ -1,10 +1,26 @@
 -- `narrow::square::cut_raised` meets its contract: the square of the low end says whether it moves.
+use Rattle.narrow.proofs.Kept.{same, replaced_some}
 use mathlib.Core.Path.{ap, ◌∙◌}
 use Rattle.whole.specs.Numbers.{root_up}
 use Rattle.whole.proofs.Spans.{ends_is}
 use Rattle.narrow.proofs.Rooted.{square_least, raise_quiet, raise_done}
 use Rattle.whole.proofs.Kit.{ints, rn}
 use Rattle.narrow.proofs.square.cut_raised.Goals as goal
+
+pub replace-requires-clause-fact_2 : goal.replace-requires-clause-fact_2
+replace-requires-clause-fact_2 c h =
+    let k = c in
+    let s = k in
+    let a = s.args in
+    let x = k.range_at-old in
+    let z = c.range_at-least in
+    let t = c.times in
+    let up = c.up in
+    let r = rn x.result.low x.ensures.good.low in
+    let i = c.if-old-lt0.false in
+    (raise_done a.x a.z a.changed a.frame.now.ends.now s.args.frame.now.fine s.requires.fact_1 x.ensures z.ensures (replaced_some h) (omega ints)
+    (square_least x.result.low z.result.low t.result x.ensures.good.low z.ensures.good.low t.type_inv t.ensures c.if-least-times.false)
+    (ends_is (rn up.result up.ensures.near ∙ up.ensures.is ∙ ap root_up (rn z.result.low z.ensures.good.low)) (rn x.result.high x.ensures.good.high))).fine
 
 pub returns-then-least-times : goal.returns-then-least-times
 returns-then-least-times c =
@@ -16,8 +32,11 @@ returns-then-least-times c =
     let t = c.times in
     let r = rn x.result.low x.ensures.good.low in
     let i = c.if-old-lt0.false in
-    raise_quiet a.x a.z a.prior a.b.now s.requires.fact_1 s.requires.fact_2 x.ensures z.ensures (omega ints)
-    (square_least x.result.low z.result.low t.result x.ensures.good.low z.ensures.good.low t.type_inv t.ensures c.if-least-times.true)
+    record {
+      kept = same;
+      done = raise_quiet a.x a.z a.changed a.frame.now.ends.now s.args.frame.now.fine s.requires.fact_1 x.ensures z.ensures (omega ints)
+          (square_least x.result.low z.result.low t.result x.ensures.good.low z.ensures.good.low t.type_inv t.ensures c.if-least-times.true);
+    }
 
 pub returns : goal.returns
 returns c =
@@ -30,6 +49,9 @@ returns c =
     let up = c.up in
     let r = rn x.result.low x.ensures.good.low in
     let i = c.if-old-lt0.false in
-    raise_done a.x a.z a.prior a.b.now s.requires.fact_1 s.requires.fact_2 x.ensures z.ensures c.replace.ensures s.requires.fact_4 (omega ints)
-    (square_least x.result.low z.result.low t.result x.ensures.good.low z.ensures.good.low t.type_inv t.ensures c.if-least-times.false)
-    (ends_is (rn up.result up.ensures.near ∙ up.ensures.is ∙ ap root_up (rn z.result.low z.ensures.good.low)) (rn x.result.high x.ensures.good.high))
+    record {
+      kept = c.replace.ensures.kept;
+      done = raise_done a.x a.z a.changed a.frame.now.ends.now s.args.frame.now.fine s.requires.fact_1 x.ensures z.ensures c.replace.ensures.value (omega ints)
+          (square_least x.result.low z.result.low t.result x.ensures.good.low z.ensures.good.low t.type_inv t.ensures c.if-least-times.false)
+          (ends_is (rn up.result up.ensures.near ∙ up.ensures.is ∙ ap root_up (rn z.result.low z.ensures.good.low)) (rn x.result.high x.ensures.good.high));
+    }

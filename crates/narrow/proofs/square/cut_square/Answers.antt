@@ -10,5 +10,8 @@ use Rattle.narrow.proofs.square.cut_square.Goals as goal
 pub returns : goal.returns
 returns c =
     let s = c in
-    done_held (square_step s.args.z s.args.x) refl c.cut.ensures (s.requires.fact_1.good s.args.z s.requires.fact_2)
-    (c.square-s.ensures ∙ ap (λ (x : Range). held_span (square_span x)) c.range_at.ensures.is)
+    record {
+      kept = c.cut.ensures.kept;
+      done = done_held (square_step s.args.z s.args.x) refl c.cut.ensures.done (s.args.frame.now.fine.good s.args.z s.requires.fact_1)
+          (c.square-s.ensures ∙ ap (λ (x : Range). held_span (square_span x)) c.range_at.ensures.is);
+    }

@@ -1,21 +1,17 @@
--- `leading::is_made` meets its contract. The invariant: the list makes q exactly if its rest from primitive i on does. The measure is the primitives left.
-use mathlib.Core.Path.{refl}
+-- `leading::is_made` meets its contract: each primitive is tested.
+use mathlib.Core.Path.{◌∙◌, refl}
+use Prim.Native.Nat.{◌/◌}
 use native.Mathlib.Omega.{arith}
-use Rattle.problem.proofs.Defining.{made_hit, made_turn, made_done}
+use lib.ListN.{length}
+use Rattle.std.proofs.Common.{rules, tests}
+use Rattle.std.proofs.lemmas.Iterator.{YieldsList-from_range}
+use Rattle.std.proofs.lemmas.Iterator.Search.{any_from_yields_List}
+use Rattle.problem.specs.Leading.{makes}
+use Rattle.problem.specs.inner.Placed.{primitive_at}
+use Rattle.problem.proofs.Groups.{by_places}
 use Rattle.problem.proofs.leading.is_made.Goals as goal
 
-pub loop-i-init : goal.loop-i-init
-loop-i-init c = (omega arith, refl)
-
-pub primitive_at-primitive-requires : goal.primitive_at-primitive-requires
-primitive_at-primitive-requires c = c.requires.each c.loop-i.i (omega arith)
-
-pub returns-then-is_result : goal.returns-then-is_result
-returns-then-is_result c = made_hit _ _ _ c.loop-i.invariant.1 (omega arith) c.primitive_at-primitive.ensures c.is_result.ensures c.if-is_result.true
-
-pub loop-i-preserved : goal.loop-i-preserved
-loop-i-preserved c =
-    (omega arith, made_turn _ _ _ c.loop-i.invariant.1 (omega arith) c.primitive_at-primitive.ensures c.is_result.ensures c.if-is_result.false)
-
 pub returns : goal.returns
-returns c = made_done c.args.primitives.now c.args.q c.loop-i.i c.loop-i.invariant.1 (omega arith)
+returns c =
+    let ps = c.args.primitives.now in
+    any_from_yields_List (λ i. makes (primitive_at ps i) c.args.q) _ _ _ c.any.ensures.ran (YieldsList-from_range 0 (length ps / 4) (length ps / 4) refl (omega arith)) (λ x b q k. search (rules, tests)) ∙ by_places ps c.args.q

@@ -1,20 +1,14 @@
--- Each quantity passed has one value, so the choice among all is the choice among those left.
-use native.Mathlib.Omega.{arith}
-use Rattle.whole.proofs.Kit.{got}
-use Rattle.search.proofs.Choice.{open_found, open_turn, open_none}
+-- Each quantity passed has one value, so the first that has more is the lowest of all.
+use borrow.Author.Rules.{rules}
+use borrow.Author.Tests.{tests}
+use Rattle.search.proofs.Choice.{lowest_some, lowest_none, one_more}
 use Rattle.search.proofs.boxes.lowest_open.Goals as goal
 
 pub returns-then-b-q : goal.returns-then-b-q
-returns-then-b-q c =
-    open_found _ _ _ c.loop-q.invariant.1 _ _ (got _ c.t9-1.given) (got _ c.t14-1.given)
-    c.loop-q-test.true c.if-b-q.true
+returns-then-b-q c = lowest_some _ _ _ c.loop-q-test.true (search (rules, tests)) c.loop-q.invariant
 
 pub loop-q-preserved : goal.loop-q-preserved
-loop-q-preserved c = (
-  omega arith,
-  open_turn _ _ _ c.loop-q.invariant.1 _ _ (got _ c.t9-1.given) (got _ c.t14-1.given)
-      c.loop-q-test.true c.if-b-q.false,
-)
+loop-q-preserved c = one_more _ _ c.loop-q.invariant (search (rules, tests))
 
 pub returns : goal.returns
-returns c = open_none _ _ _ c.loop-q.invariant.1 c.loop-q-test.false
+returns c = lowest_none _ _ _ c.loop-q-test.false c.loop-q.invariant

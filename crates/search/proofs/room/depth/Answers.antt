@@ -12,6 +12,5 @@ loop-q-init c = omega (arith, depth_none c.args.ranges.now)
 
 pub loop-q-preserved : goal.loop-q-preserved
 loop-q-preserved c =
-    let r = c.range_at-range.ensures in
     let h = c.halvings-sum.ensures in
-    omega (arith, depth_more c.args.ranges.now c.loop-q.q, ap (λ (x : Range). least_power (values x)) r.is)
+    omega (arith, depth_more c.args.ranges.now c.loop-q.q, ap (λ (x : Range). least_power (values x)) c.range_at.ensures.is)

@@ -1,45 +1,56 @@
--- What is asked of the whole line is asked of the tokens from i on, with what was opened and closed before them.
-use mathlib.Core.Path.{sym, ◌∙◌, ap}
+-- What is asked of the whole line is asked of the tokens behind the pieces so far, with what was opened and closed at those.
+use mathlib.Core.Path.{◌≡◌, sym, ◌∙◌, ap}
+use Prim.Native.Nat.{ℕ}
+use lib.Dec.{eqb}
+use lib.ListN.{length}
 use native.Mathlib.Omega.{arith}
-use Rattle.sheet.specs.Depth.{deep_from}
-use Rattle.sheet.proofs.Steps.{from_start}
-use Rattle.sheet.proofs.Depths.{opens_few, closes_few, deep_end, deep_over, deep_under, moves}
+use borrow.Author.Tests.{tests}
+use Rattle.std.proofs.Common.{rules}
+use Rattle.std.proofs.lemmas.List.{length_push}
+use Rattle.std.proofs.lemmas.Iterator.Splits.{YieldsList-from_slice_split}
+use Rattle.std.proofs.lemmas.Iterator.Consumers.{YieldsList-at, YieldsList-turn, YieldsList-end}
+use Rattle.sheet.specs.Tokens.{tokens_of}
+use Rattle.sheet.specs.Depth.{opens_of, closes_of}
+use Rattle.sheet.proofs.Depths.{one_or_none, piece_token, pieces_end, deep_end, deep_over, deep_under}
 use Rattle.sheet.proofs.depth.deep.Goals as goal
-
-pub loop-i-init : goal.loop-i-init
-loop-i-init c = (omega arith, omega arith, omega arith, ap (deep_from 0 0) (sym (from_start c.args.line.now)))
-
-pub overflow_add-opened : goal.overflow_add-opened
-overflow_add-opened c = omega (arith, c.opens-opened.ensures, opens_few c.step_at-s.result.token, c.loop-i.invariant.0, c.loop-i.invariant.1, c.well_formed.0)
-
-pub overflow_add-closed : goal.overflow_add-closed
-overflow_add-closed c = omega (arith, c.closes-closed.ensures, closes_few c.step_at-s.result.token, c.loop-i.invariant.0, c.loop-i.invariant.2, c.well_formed.0)
-
-pub overflow_add-closed-in-loop-i : goal.overflow_add-closed-in-loop-i
-overflow_add-closed-in-loop-i c = omega (arith, c.closes-closed.ensures, closes_few c.step_at-s.result.token, c.loop-i.invariant.0, c.loop-i.invariant.2, c.well_formed.0)
 
 pub returns-then-closed-opened : goal.returns-then-closed-opened
 returns-then-closed-opened c =
     let l = c.args.line.now in
-    let k = c.loop-i in
-    let e = deep_over l k.i k.opened k.closed _ _ c.step_at-s.result c.loop-i-test.true c.step_at-s.ensures c.opens-opened.ensures c.closes-closed.ensures c.if-closed-opened.true in
-    sym (k.invariant.3 ∙ e)
+    let k = c.loop-piece in
+    let e = c.split-piece-items.ensures in
+    let t = YieldsList-turn
+    (YieldsList-at c.into_iter-piece-iterator.ensures.into_iter_gives
+    (YieldsList-from_slice_split _ (λ (b : ℕ). eqb b 32) l e.rest e.done e.closure (λ x b q k. search (rules, tests))))
+    k.yielded _ k.yielded_by _ _ c.in-Some.piece c.in-Some.is c.next.ensures.steps in
+    let opened : c.from-opened.result ≡ opens_of c.read-token.result = search rules in
+    let closed : c.from-closed.result ≡ closes_of c.read-token.result = search rules in
+    let at = piece_token l (length k.yielded) c.in-Some.piece.now t in
+    sym (k.invariant.4 ∙ deep_over (tokens_of l) (length k.yielded) k.opened k.closed _ _ _ at (opened ∙ ap opens_of c.read-token.ensures) (closed ∙ ap closes_of c.read-token.ensures) c.if-closed-opened.true)
 
-pub loop-i-smaller : goal.loop-i-smaller
-loop-i-smaller c =
-    let m = moves c.args.line.now c.loop-i.i c.step_at-s.result c.loop-i-test.true c.step_at-s.ensures in
-    omega (arith, c.loop-i.invariant.0)
-
-pub loop-i-preserved : goal.loop-i-preserved
-loop-i-preserved c =
+pub loop-piece-preserved : goal.loop-piece-preserved
+loop-piece-preserved c =
     let l = c.args.line.now in
-    let k = c.loop-i in
-    let s = c.step_at-s.result in
-    let e = deep_under l k.i k.opened k.closed _ _ s c.loop-i-test.true c.step_at-s.ensures c.opens-opened.ensures c.closes-closed.ensures c.if-closed-opened.false in
-    let m = moves l k.i s c.loop-i-test.true c.step_at-s.ensures in
-    (m.1, omega (arith, c.opens-opened.ensures, opens_few s.token, k.invariant.1), omega (arith, c.closes-closed.ensures, closes_few s.token, k.invariant.2), k.invariant.3 ∙ e)
+    let k = c.loop-piece in
+    let e = c.split-piece-items.ensures in
+    let t = YieldsList-turn
+    (YieldsList-at c.into_iter-piece-iterator.ensures.into_iter_gives
+    (YieldsList-from_slice_split _ (λ (b : ℕ). eqb b 32) l e.rest e.done e.closure (λ x b q k. search (rules, tests))))
+    k.yielded _ k.yielded_by _ _ c.in-Some.piece c.in-Some.is c.next.ensures.steps in
+    let opened : c.from-opened.result ≡ opens_of c.read-token.result = search rules in
+    let closed : c.from-closed.result ≡ closes_of c.read-token.result = search rules in
+    let n = length_push k.yielded c.in-Some.piece in
+    let at = piece_token l (length k.yielded) c.in-Some.piece.now t in
+    let under = deep_under (tokens_of l) (length k.yielded) k.opened k.closed _ _ _ at (opened ∙ ap opens_of c.read-token.ensures) (closed ∙ ap closes_of c.read-token.ensures) c.if-closed-opened.false in
+    (search rules, tt, omega (arith, n, one_or_none c.eq.result), omega (arith, n, one_or_none c.eq-in-loop-piece.result), rw n (k.invariant.4 ∙ under))
 
 pub returns : goal.returns
 returns c =
-    let k = c.loop-i in
-    sym (k.invariant.3 ∙ deep_end c.args.line.now k.i k.opened k.closed c.loop-i-test.false)
+    let l = c.args.line.now in
+    let k = c.loop-piece in
+    let e = c.split-piece-items.ensures in
+    let t = YieldsList-end
+    (YieldsList-at c.into_iter-piece-iterator.ensures.into_iter_gives
+    (YieldsList-from_slice_split _ (λ (b : ℕ). eqb b 32) l e.rest e.done e.closure (λ x b q k. search (rules, tests))))
+    k.yielded _ k.yielded_by _ _ c.in-None.is c.next.ensures.steps in
+    sym (k.invariant.4 ∙ deep_end (tokens_of l) (length k.yielded) k.opened k.closed (pieces_end l (length k.yielded) t.1))

@@ -1,14 +1,15 @@
--- What is asked of the whole line is asked of the tokens from i on, with what was opened and closed before them.
+-- What is asked of the whole line is asked of the tokens behind the pieces so far, with what was opened and closed at those.
 use mathlib.Core.Path.{◌≡◌}
-use Prim.Native.Nat.{◌+◌, ◌-◌, ◌≤◌}
-use lib.ListN.{length}
+use Prim.Native.Nat.{◌≤◌}
+use lib.ListN.{length, drop}
 use Rattle.sheet.specs.Tokens.{tokens_of}
 use Rattle.sheet.specs.Depth.{deep_from, too_deep}
-use Rattle.sheet.specs.inner.Steps.{tokens_from}
 use Rattle.sheet.proofs.depth.deep.Given as goal
 
-abbrev pub invariant-loop-i : goal.invariant-loop-i
-invariant-loop-i l = (l.i ≤ length l.line + 1) × (l.opened ≤ l.i) × (l.closed ≤ l.i) × (too_deep (tokens_of l.line) ≡ deep_from l.opened l.closed (tokens_from l.line l.i))
-
-abbrev pub decreases-loop-i : goal.decreases-loop-i
-decreases-loop-i l = length l.line + 1 - l.i
+abbrev pub invariant-loop-piece : goal.invariant-loop-piece
+invariant-loop-piece l =
+    (goal.iterator-loop-piece).can_next l.piece-iterator
+    × (goal.iterator-loop-piece).is_finite l.piece-iterator
+    × (l.opened ≤ length l.yielded)
+    × (l.closed ≤ length l.yielded)
+    × (too_deep (tokens_of l.line) ≡ deep_from l.opened l.closed (drop (length l.yielded) (tokens_of l.line)))

@@ -1,10 +1,7 @@
 -- The first byte, and with `-` the one behind it, decide which of the three a piece can be.
-use Prim.Native.Nat.{◌-◌}
 use mathlib.Core.Path.{sym, ◌∙◌, ap}
-use native.Mathlib.Omega.{arith}
-use lib.ListN.{length, drop, length-drop}
-use lib.Seq.{take_all}
 use Rattle.sheet.specs.Tokens.{number_of, as_number, as_negative}
+use Rattle.sheet.proofs.Digits.{all_behind}
 use Rattle.sheet.proofs.Words.{token_number, token_negative, token_word, behind_drop, minus_some}
 use Rattle.sheet.proofs.tokens.read.Goals as goal
 
@@ -20,7 +17,7 @@ slice_bounds-number-start c = minus_some c.args.w.now (sym c.minus_first.ensures
 pub returns-then-minus_first : goal.returns-then-minus_first
 returns-then-minus_first c =
     let w = c.args.w.now in
-    let e = take_all (length w - 1) (drop 1 w) (omega (arith, length-drop 1 w)) ∙ sym (behind_drop w) in
+    let e = all_behind w ∙ sym (behind_drop w) in
     c.negative.ensures ∙ ap as_negative (c.number-then-minus_first.ensures ∙ ap number_of e)
     ∙ sym (token_negative w (sym c.digit_at.ensures ∙ c.if-digit_at.false) (sym c.minus_first.ensures ∙ c.if-minus_first.true))
 

@@ -13,15 +13,12 @@ pub returns-then-line-at : goal.returns-then-line-at
 returns-then-line-at c = sym (step_past c.args.line.now c.args.at c.if-line-at.true)
 
 pub slice_bounds-read-end : goal.slice_bounds-read-end
-slice_bounds-read-end c = rw c.place-e.ensures (place_fits 32 c.args.line.now c.args.at c.if-line-at.false)
-
-pub overflow_add-result : goal.overflow_add-result
-overflow_add-result c = omega (arith, c.place-e.ensures, place_fits 32 c.args.line.now c.args.at c.if-line-at.false)
+slice_bounds-read-end c = rw c.place-end.ensures (place_fits 32 c.args.line.now c.args.at c.if-line-at.false)
 
 pub returns : goal.returns
 returns c =
     let l = c.args.line.now in
     let at = c.args.at in
-    let n : c.place-e.result - at ≡ length (front (drop at l)) = omega (arith, c.place-e.ensures) in
-    let t : c.read-t.result ≡ token_of (front (drop at l)) = c.read-t.ensures ∙ ap token_of (ap (λ (k : ℕ). take k (drop at l)) n ∙ up_to_take 32 (drop at l)) in
-    rw (t, c.place-e.ensures, step_in l at c.if-line-at.false)
+    let n : c.place-end.result - at ≡ length (front (drop at l)) = omega (arith, c.place-end.ensures) in
+    let t : c.read.result ≡ token_of (front (drop at l)) = c.read.ensures ∙ ap token_of (ap (λ (k : ℕ). take k (drop at l)) n ∙ up_to_take 32 (drop at l)) in
+    rw (t, c.place-end.ensures, step_in l at c.if-line-at.false)

@@ -1,69 +1,35 @@
 -- The walk through the lines keeps `Walking`: a line without a fault is one step, a fault decides, and past the last line the sheet held is the outcome.
-use mathlib.Core.Path.{sym, ◌∙◌}
-use native.Mathlib.Omega.{arith}
-use Rattle.sheet.proofs.Places.{place_fits}
-use Rattle.translate.proofs.WalkCode.{walk_start, walk_done, walk_fault, walk_next}
+use Rattle.std.proofs.Common.{rules, tests, ℕ, eqb}
+use mathlib.Core.Path.{refl}
+use Rattle.translate.proofs.EndedLines.{always, ended}
+use Rattle.translate.proofs.WalkCode.{walk_start, walk_done, walk_decides, walk_holds, walk_next}
 use Rattle.translate.proofs.walk.read_lines.Goals as goal
 
-pub loop-at-init : goal.loop-at-init
-loop-at-init c = walk_start c.args.version c.args.text.now c.args.from _ _ _ _ _ c.requires
+pub loop-i-init : goal.loop-i-init
+loop-i-init c = walk_start c.args.version c.args.text.now _ _ _ _ _ _ _ c.requires (search rules) (search rules)
 
-pub line_end-end-requires : goal.line_end-end-requires
-line_end-end-requires c = tt
+pub read_line-requires : goal.read_line-requires
+read_line-requires c = c.loop-i.invariant.standing
 
-pub slice_bounds-read_line-count : goal.slice_bounds-read_line-count
-slice_bounds-read_line-count c = omega (arith, c.line_end-end.ensures)
+pub returns-in_err-done : goal.returns-in_err-done
+returns-in_err-done c =
+    let w = c.loop-i.invariant in
+    let a = c.in-Some.ensures.steps.0 in
+    let split = ended _ c.in-Some.ended _ _ a.0 a.1.1 (a.1.2 (λ (b : ℕ). eqb b 10) (always _ (λ x r f k. search (rules, tests)))).1 a.2 _ c.unwrap_or-bytes.result c.strip_suffix.ensures.cases c.unwrap_or-bytes.ensures in
+    let f = walk_decides w _ _ split c.read_line.ensures.answers c.map_err.result _ (λ g e k. search rules) c.map_err.ensures.cases c.in_err-done.field-0.0 c.in_err-done.was in
+    let e = c.from_residual.ensures in
+    record { says = search rules; full = c.read_line.ensures.full }
 
-pub slice_bounds-read_line-end : goal.slice_bounds-read_line-end
-slice_bounds-read_line-end c = omega (arith, c.line_end-end.ensures, place_fits 10 c.args.text.now c.loop-at.at (omega arith))
-
-pub read_line-lined-requires : goal.read_line-lined-requires
-read_line-lined-requires c = c.loop-at.invariant.standing
-
-pub shape_of-ranges-in-Refused : goal.shape_of-ranges-in-Refused
-shape_of-ranges-in-Refused c = c.read_line-lined.auto.ranges ∙ c.loop-at.invariant.standing.full.ranges ∙ sym c.requires.ranges
-
-pub shape_of-primitives-in-Refused : goal.shape_of-primitives-in-Refused
-shape_of-primitives-in-Refused c = c.read_line-lined.auto.primitives ∙ c.loop-at.invariant.standing.full.primitives ∙ sym c.requires.primitives
-
-pub shape_of-lengths-in-Refused : goal.shape_of-lengths-in-Refused
-shape_of-lengths-in-Refused c = c.read_line-lined.auto.lengths ∙ c.loop-at.invariant.standing.full.lengths ∙ sym c.requires.lengths
-
-pub shape_of-literals-in-Refused : goal.shape_of-literals-in-Refused
-shape_of-literals-in-Refused c = c.read_line-lined.auto.literals ∙ c.loop-at.invariant.standing.full.literals ∙ sym c.requires.literals
-
-pub shape_of-keys-in-Refused : goal.shape_of-keys-in-Refused
-shape_of-keys-in-Refused c = c.read_line-lined.auto.keys ∙ c.loop-at.invariant.standing.full.names ∙ sym c.requires.names
-
-pub returns-in-Refused : goal.returns-in-Refused
-returns-in-Refused c = record { says = walk_fault c.loop-at.invariant c.loop-at-test.true _ c.line_end-end.ensures c.read_line-lined.ensures _ c.in-Refused.is }
-
-pub overflow_add-at : goal.overflow_add-at
-overflow_add-at c = omega (arith, c.line_end-end.ensures, place_fits 10 c.args.text.now c.loop-at.at (omega arith))
-
-pub overflow_add-line : goal.overflow_add-line
-overflow_add-line c = omega (arith, c.loop-at.invariant.number, c.loop-at-test.true)
-
-pub loop-at-smaller : goal.loop-at-smaller
-loop-at-smaller c = omega (arith, c.line_end-end.ensures, c.loop-at-test.true)
-
-pub loop-at-preserved : goal.loop-at-preserved
-loop-at-preserved c = walk_next c.loop-at.invariant c.loop-at-test.true _ c.line_end-end.ensures c.read_line-lined.ensures _ c.in-Next.is c.read_line-lined.auto.ranges c.read_line-lined.auto.primitives c.read_line-lined.auto.lengths c.read_line-lined.auto.literals c.read_line-lined.auto.keys
-
-pub shape_of-ranges : goal.shape_of-ranges
-shape_of-ranges c = c.loop-at.invariant.standing.full.ranges ∙ sym c.requires.ranges
-
-pub shape_of-primitives : goal.shape_of-primitives
-shape_of-primitives c = c.loop-at.invariant.standing.full.primitives ∙ sym c.requires.primitives
-
-pub shape_of-lengths : goal.shape_of-lengths
-shape_of-lengths c = c.loop-at.invariant.standing.full.lengths ∙ sym c.requires.lengths
-
-pub shape_of-literals : goal.shape_of-literals
-shape_of-literals c = c.loop-at.invariant.standing.full.literals ∙ sym c.requires.literals
-
-pub shape_of-keys : goal.shape_of-keys
-shape_of-keys c = c.loop-at.invariant.standing.full.names ∙ sym c.requires.names
+pub loop-i-preserved : goal.loop-i-preserved
+loop-i-preserved c =
+    let w = c.loop-i.invariant in
+    let a = c.in-Some.ensures.steps.0 in
+    let split = ended _ c.in-Some.ended _ _ a.0 a.1.1 (a.1.2 (λ (b : ℕ). eqb b 10) (always _ (λ x r f k. search (rules, tests)))).1 a.2 _ c.unwrap_or-bytes.result c.strip_suffix.ensures.cases c.unwrap_or-bytes.ensures in
+    walk_next w _ _ split c.read_line.ensures.answers c.read_line.ensures.full _
+    (walk_holds w _ _ split c.read_line.ensures.answers c.map_err.result _ c.map_err.ensures.cases _ c.in_ok-done.was)
+    _ _ c.in-Some.ensures.steps.2 refl
 
 pub returns : goal.returns
-returns c = record { says = walk_done c.loop-at.invariant c.loop-at-test.false }
+returns c =
+    let a = c.in-None.ensures.steps.0 in
+    record { says = walk_done c.loop-i.invariant a.0; full = c.loop-i.invariant.standing.full }

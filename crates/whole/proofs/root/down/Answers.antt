@@ -7,18 +7,12 @@ use mir.Val.{to_z}
 use mir.Facts.{to_z_pos}
 use Rattle.whole.specs.Numbers.{root_down}
 use Rattle.whole.specs.inner.Held.{Is}
-use Rattle.whole.proofs.Kit.{ints, at, apart, nat_abs_is, index, index_is}
+use Rattle.whole.proofs.Kit.{ints, at, index_is}
 use Rattle.whole.proofs.Roots.{down_found, down_zero}
 use Rattle.whole.proofs.root.down.Goals as goal
 
 pub returns-then-z-lt0 : goal.returns-then-z-lt0
 returns-then-z-lt0 c = down_zero c.args.z (omega ints)
-
-pub overflow_cast-z : goal.overflow_cast-z
-overflow_cast-z c = index c.args.z c.ranges.z (omega ints)
-
-pub root-requires : goal.root-requires
-root-requires c = let z = c.args.z in omega (ints, nat_abs_is (at z), apart (at z))
 
 pub returns : goal.returns
 returns c =

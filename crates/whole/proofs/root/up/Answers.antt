@@ -27,9 +27,6 @@ s c =
 pub overflow_mul-r : goal.overflow_mul-r
 overflow_mul-r c = (p c).fits
 
-pub overflow_add-result : goal.overflow_add-result
-overflow_add-result c = (s c.before).fits
-
 pub returns-then-r-z : goal.returns-then-r-z
 returns-then-r-z c =
     let z = c.args.z in

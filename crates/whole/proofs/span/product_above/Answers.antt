@@ -7,8 +7,10 @@ use Rattle.whole.proofs.span.product_above.Goals as goal
 
 pub returns : goal.returns
 returns c =
-    let s = c.before.before.before.before.before.before in
+    let x = c.args.x in
+    let y = c.args.y in
+    let r = c.requires in
     let a = c.times in
     let b = c.times-2 in
-    ends_is (times_is s.args.x.low s.args.y.low a.result s.requires.good_1.low s.requires.good_2.low a.type_inv a.ensures) (times_is s.args.x.high s.args.y.high b.result s.requires.good_1.high s.requires.good_2.high b.type_inv b.ensures)
-    ∙ ap held_span (sym (product_above_lem s.args.x s.args.y s.requires.pos_bound_1 s.requires.pos_bound_2 s.requires.good_1.ordered s.requires.good_2.ordered))
+    ends_is (times_is x.low y.low a.result r.good_1.low r.good_2.low a.type_inv a.ensures) (times_is x.high y.high b.result r.good_1.high r.good_2.high b.type_inv b.ensures)
+    ∙ ap held_span (sym (product_above_lem x y r.pos_bound_1 r.pos_bound_2 r.good_1.ordered r.good_2.ordered))

@@ -1,14 +1,11 @@
 -- The ends are near, so each end of the sum is exact.
-use lib.IntN.{◌+ℤ◌}
-use Rattle.whole.proofs.Kit.{rn, call2}
+use Rattle.whole.proofs.Kit.{near_sum}
 use Rattle.whole.proofs.Spans.{ends_is}
 use Rattle.whole.proofs.span.sum.Goals as goal
 
 pub returns : goal.returns
 returns c =
-    let s = c.before.before.before.before.before.before in
-    let l = c.sum in
-    let h = c.sum-2 in
-    ends_is
-    (call2 ◌+ℤ◌ l.result l.type_inv l.ensures (rn s.args.x.low s.requires.fact_1.low) (rn s.args.y.low s.requires.fact_2.low))
-    (call2 ◌+ℤ◌ h.result h.type_inv h.ensures (rn s.args.x.high s.requires.fact_1.high) (rn s.args.y.high s.requires.fact_2.high))
+    let x = c.args.x in
+    let y = c.args.y in
+    let r = c.requires in
+    ends_is (near_sum x.low y.low r.fact_1.low r.fact_2.low).is (near_sum x.high y.high r.fact_1.high r.fact_2.high).is

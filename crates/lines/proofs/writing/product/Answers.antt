@@ -1,7 +1,0 @@
-use Rattle.lines.proofs.HelperCode.{product_is}
-use Rattle.lines.proofs.writing.product.Goals as goal
-
--- `writing::product` meets its contract: no test tells the held range of the product from the exact one.
-
-pub returns : goal.returns
-returns c = let s = c in product_is s.args.a s.args.e s.args.ranges.now s.args.primitives.now s.requires.fact_1 s.requires.fact_2 c.product.ensures c.operated.ensures
