@@ -58,10 +58,6 @@ value_few (pos n) = omega (arith, digits_few 19 n)
 value_few (negsuc n) = omega (arith, digits_few 19 (suc n))
 
 -- ---- a value: from 0 on it is its size; below 0, `-` and the size, had from one nearer to 0
-pub value_up : (z : ℤ) (n : ℕ) → pos 0 ≤ℤ z → n ≡ positive_part z → decimal n ≡ signed_decimal z
-value_up (pos m) n h e = ap decimal e
-value_up (negsuc m) n h e = absurd (omega ints)
-
 pub value_down : (z : ℤ) (n : ℕ) → z <ℤ pos 0 → n ≡ positive_part (pos 0 -ℤ (z +ℤ pos 1)) → 45 ∷ decimal (n + 1) ≡ signed_decimal z
 value_down (pos m) n h e = absurd (omega ints)
 value_down (negsuc m) n h e =

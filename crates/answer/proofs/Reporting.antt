@@ -56,9 +56,6 @@ zeros (suc n) (suc m) h = ap (λ (l : List ℤ). pos 0 ∷ l) (zeros n m (omega 
 pub zeros_length : (n m : ℕ) → n ≤ m → n ≡ length (take n (replicate m (pos 0)))
 zeros_length n m h = sym (length-take-le n (replicate m (pos 0)) (simp length-replicate (omega arith)))
 
-pub names_fit : (names : List ℕ) (l : List ℤ) → 8 * length (take (length names / 8) l) ≤ length names
-names_fit names l = omega (arith, length-take (length names / 8) l)
-
 pub report_on_lem : (rs ps ns ls : List ℤ) (names : List ℕ) (lead : ℤ) (point work p w rest : List ℤ) (r : Result Solved Refusal) → Solves rs ps ns ls lead (pos desk_budget) point work p w r → lead ≡ pos (length names / 8) → point ≡ replicate (length rs / 2) (pos 0) → work ≡ desk_work → length names / 8 ≤ length p → report_of_solve r names (take (length names / 8) (p ++ rest)) ≡ report_on rs ps ns ls names
 unfolding report_on
 report_on_lem rs ps ns ls names lead point work p w rest r h d e f l =

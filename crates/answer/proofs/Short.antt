@@ -71,7 +71,3 @@ output_short t = go (outcome_of t) refl
 -- so what is put from the start of a buffer of 4,096 bytes is the whole output
 pub answers : (t l l' : List ℕ) (r : ℕ) → length l ≡ 4096 → Puts (output_of t) l 0 l' r → Answers t l r l'
 answers t l l' r e h = let f = puts_front h (omega (arith, output_short t)) in record { long = f.0; front = f.1 }
-
--- and what is returned counts bytes of the buffer
-pub answer_in : (t l l' : List ℕ) (r : ℕ) → Answers t l r l' → r ≤ length l'
-answer_in t l l' r h = omega (arith, h.long, ap length h.front, length-append (output_of t) (drop (length (output_of t)) l))

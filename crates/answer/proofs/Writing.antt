@@ -16,10 +16,6 @@ bytes_then w [] b = refl
 bytes_then w (x ∷ a) b = bytes_then (put_byte w x) a b
 
 module _ (l : List ℕ) (i : ℕ) where
-  pub puts_none : Puts [] l i l i
-  unfolding put_bytes
-  puts_none = record { is = refl }
-
   pub puts_one : (b : ℕ) → i < length l → Puts (b ∷ []) l i (set l i b) (i + 1)
   unfolding put_bytes put_byte
   puts_one b h = record { is = rw (lt-ltb i (length l) h) }

@@ -232,11 +232,13 @@ unfolding min_z max_z floor_q ceil_q root_in root_down root_up least_from least_
 opened = tt
 
 unfoldable tokens_open : Unit {0}
-unfolding tokens.pieces_of tokens.suffix_of tokens.digits_of tokens.digit_first tokens.number_of tokens.key_of tokens.all_lower tokens.mark_of tokens.minus_first
+unfolding tokens.pieces_of tokens.suffix_of tokens.digits_of tokens.digit_first tokens.number_of tokens.key_of tokens.all_lower tokens.mark_of
+    tokens.minus_first
 tokens_open = tt
 
 unfoldable read_open : Unit {0}
-unfolding lines_of line_of tokens.token_of tokens.tokens_of reading.expr_f reading.comparison_f reading.more_f reading.all_f reading.read_range reading.read_line deep_from
+unfolding lines_of line_of tokens.token_of tokens.tokens_of reading.expr_f reading.comparison_f reading.more_f reading.all_f reading.read_range
+    reading.read_line deep_from
 read_open = tt
 
 unfoldable plain_open : Unit {0}
@@ -252,7 +254,8 @@ unfolding translation.literals_for translation.equal translation.equalities tran
 clauses_open = tt
 
 unfoldable grounds_open : Unit {0}
-unfolding grounds.any_bad_byte grounds.version_from grounds.version_of grounds.first_line grounds.named_all grounds.any_beyond grounds.tree_fault grounds.one_line
+unfolding grounds.any_bad_byte grounds.version_from grounds.version_of grounds.first_line grounds.named_all grounds.any_beyond grounds.tree_fault
+    grounds.one_line
 grounds_open = tt
 
 unfoldable outcome_open : Unit {0}

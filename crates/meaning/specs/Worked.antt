@@ -58,7 +58,8 @@ worked =
 
 -- what the outcome computes with
 unfoldable opened : Unit {0}
-unfolding min_z max_z lines_of line_of deep_from tokens.pieces_of tokens.suffix_of tokens.digits_of tokens.digit_first tokens.number_of tokens.key_of tokens.all_lower
+unfolding min_z max_z lines_of line_of deep_from tokens.pieces_of tokens.suffix_of tokens.digits_of tokens.digit_first tokens.number_of tokens.key_of
+    tokens.all_lower
     tokens.mark_of tokens.minus_first tokens.token_of tokens.tokens_of reading.expr_f reading.comparison_f reading.more_f reading.all_f
     reading.read_range reading.read_line
 opened = tt
@@ -70,7 +71,8 @@ unfolding plain.place_of plain.is_in plain.plain_e plain.named_e plain.asks_of r
 made = tt
 
 unfoldable judged : Unit {0}
-unfolding grounds.any_bad_byte grounds.version_from grounds.version_of grounds.first_line grounds.named_all grounds.any_beyond grounds.tree_fault grounds.one_line
+unfolding grounds.any_bad_byte grounds.version_from grounds.version_of grounds.first_line grounds.named_all grounds.any_beyond grounds.tree_fault
+    grounds.one_line
     grounds.read_lines grounds.outcome_of
 judged = tt
 
