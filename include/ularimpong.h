@@ -10,12 +10,14 @@
  *
  * A call keeps nothing between calls and uses no heap, but stack, which no proof
  * bounds. Measured with the older kit rattle-kit-5b, and then rounded up (built by
- * rattle-kit-13f, no sheet of crates/examples/data needed more); of ularimpong_solve
- * with rattle-kit-13f:
+ * rattle-kit-13f, no sheet of crates/examples/data needed more):
  *
- *   ularimpong_solve, ularimpong_line_span    below 6 KiB; leave it 32 KiB
+ *   ularimpong_solve, ularimpong_line_span    below 2 KiB; leave it 32 KiB
  *   ularimpong_translate                      68 KiB; leave it 128 KiB
  *   ularimpong_answer                         170 KiB; leave it 256 KiB
+ *
+ * Where a program is linked to bind names lazily, its first calls of memcpy and memset
+ * take some 3 KiB more each time, the dynamic linker's own and none of the library's.
  *
  * Link target/staticlib/libbindings.a, which `tools/rust archive` writes. */
 #ifndef ULARIMPONG_H

@@ -4,6 +4,15 @@ use std::alloc::{AllocError, Global};
 use std::io;
 use std::rt::Files;
 
+// The most bytes of a sheet; a longer one gets no answer.
+const SHEET: usize = 4_200;
+
+// The most bytes of a file's name; a longer one names no file.
+const NAME: usize = 256;
+
+// The most bytes of an answer that is asked for; those behind them read as LF.
+const ASKED: usize = 256;
+
 // How a case gives its sheet: by its text, or by the name of the file that it stands in.
 #[derive(Clone, Copy)]
 pub enum Given {
@@ -30,13 +39,15 @@ fn sheet_of(
     rt: &impl Files,
     alloc: Global,
     given: Given,
-    text: &str,
+    case: &[u8],
 ) -> Result<Vec<u8>, AllocError> {
+    let text = unfold::unfolded(alloc, case)?;
     match given {
-        Given::Text => unfold::unfolded(alloc, text),
+        Given::Text => Ok(text),
+        Given::File if NAME < text.len() => Ok(Vec::new(alloc)),
         Given::File => {
-            let mut buffer = [0u8; 4200];
-            let length = table::load(rt, text.as_bytes(), &mut buffer);
+            let mut buffer = [0u8; SHEET];
+            let length = table::load(rt, &text, &mut buffer);
             buffer[..length].to_vec(alloc)
         }
     }
@@ -52,9 +63,14 @@ pub fn compare(
 ) -> io::Result<()> {
     let mut out = [0u8; 4096];
     table::compare(rt, group, file, |case| {
-        let (sheet, asked) = case.split_once('|').unwrap_or((case, ""));
-        let sheet = sheet_of(rt, alloc, given, sheet)?;
-        let asked = unfold::unfolded(alloc, asked)?;
+        let sheet = sheet_of(rt, alloc, given, case)?;
+        let mut asked = unfold::unfolded(alloc, table::behind(case, b'|').unwrap_or(b""))?;
+        for byte in asked.iter_mut().skip(ASKED) {
+            *byte = b'\n';
+        }
+        if SHEET < sheet.len() {
+            return Ok(asked.is_empty());
+        }
         Ok(answer_to(&sheet, &mut out) == asked.as_slice())
     })
 }

@@ -1,7 +1,7 @@
 -- A clause read position by position: those read that are not false, and those still to read, are the positions that are not false; none, one or a second one decides the cut.
-use mathlib.Core.Path.{◌≡◌, sym, ap, ◌∙◌}
+use mathlib.Core.Path.{◌≡◌, refl, sym, ap, ◌∙◌}
 use mathlib.Core.List.{List, [], ◌∷◌}
-use mathlib.Core.Bool.{Bool, true, false, true≢false, false≢true}
+use mathlib.Core.Bool.{Bool, true, false}
 use Prim.Native.Nat.{ℕ, ◌+◌, ◌*◌, ◌≤◌, ◌<◌}
 use native.Mathlib.Omega.{arith}
 use lib.ListN.{drop}
@@ -15,9 +15,7 @@ use Rattle.narrow.specs.Narrowing.{is_false, open_of, literal_cut, unit_cut, cla
 use Rattle.narrow.specs.inner.Done.{Fine, Done}
 use Rattle.narrow.specs.inner.Clause.{Lits}
 use Rattle.narrow.specs.declared.Emptied.{Emptied}
-use Rattle.std.specs.Prelude.{is_some, Result, Ok, Err}
-use Rattle.std.specs.declared.option.Option.{Option}
-use Rattle.std.specs.declared.option.Option.TheVariants.{None, Some}
+use Rattle.std.specs.Prelude.{Result, Ok, Err}
 use Rattle.narrow.proofs.Cutting.{next_at, done_stay, done_void}
 
 -- ---- the positions that are not false
@@ -33,12 +31,16 @@ open_take b x ls e = rw e
 abbrev open_from : Box → List ℤ → ℕ → List Literal
 open_from b l k = open_of b (literals_of (drop (3 * k) l))
 
--- k positions are read: none of them is not false, or just the one that is open
-abbrev pub Read : Box → List ℤ → Option ℕ → ℕ → Type 0
-Read b l None k = open_from b l 0 ≡ open_from b l k
-Read b l (Some i) k = (i < k) × (open_from b l 0 ≡ literal_at l i ∷ open_from b l k)
+-- k positions are read: none of them is not false, where only is n, and else just the one at only
+pub record Read (b : Box) (l : List ℤ) (n only k : ℕ) : Type 0 where
+  pub some : only ≤ n
+  pub none : n ≤ only → open_from b l 0 ≡ open_from b l k
+  pub one : only < n → open_from b l 0 ≡ literal_at l only ∷ open_from b l k
 
-module _ {b : Box} {l : List ℤ} {n k : ℕ} (lits : Lits b l n) (h : k < n) {x : Literal} (ex : x ≡ literal_at l k) where
+pub read_none : (b : Box) (l : List ℤ) (n : ℕ) → Read b l n n 0
+read_none b l n = record { some = omega arith; none = λ _. refl; one = λ h. absurd (omega arith) }
+
+module _ {b : Box} {l : List ℤ} {n only k : ℕ} (lits : Lits b l n) (read : Read b l n only k) (h : k < n) {x : Literal} (ex : x ≡ literal_at l k) where
   here : open_from b l k ≡ open_of b (literal_at l k ∷ literals_of (drop (3 * (k + 1)) l))
   here = ap (open_of b) (literals_at l k (omega (arith, lits.long)))
 
@@ -52,32 +54,33 @@ module _ {b : Box} {l : List ℤ} {n k : ℕ} (lits : Lits b l n) (h : k < n) {x
   take e = here ∙ open_take b (literal_at l k) (literals_of (drop (3 * (k + 1)) l)) (is e)
 
   -- one position more is read: it is false, or it is the first that is not
-  pub read_false : (o : Option ℕ) → Read b l o k → true ≡ is_false b x → Read b l o (k + 1)
-  read_false None read e = read ∙ skip e
-  read_false (Some i) read e = (omega (arith, read.0), read.1 ∙ ap (λ (ls : List Literal). literal_at l i ∷ ls) (skip e))
+  pub read_false : true ≡ is_false b x → Read b l n only (k + 1)
+  read_false e = record {
+    some = read.some;
+    none = λ g. read.none g ∙ skip e;
+    one = λ g. read.one g ∙ ap (λ (ls : List Literal). literal_at l only ∷ ls) (skip e);
+  }
 
-  pub read_open : (o : Option ℕ) → Read b l o k → false ≡ is_false b x → false ≡ is_some o → Read b l (Some k) (k + 1)
-  read_open None read e f = (omega arith, read ∙ take e)
-  read_open (Some i) read e f = absurd (false≢true f)
+  pub read_open : false ≡ is_false b x → n ≤ only → Read b l n k (k + 1)
+  read_open e g = record { some = omega arith; none = λ f. absurd (omega arith); one = λ _. read.none g ∙ take e }
 
   -- or it is a second one
-  pub read_many : (o : Option ℕ) → Read b l o k → (p : Bool) → Fine b → false ≡ is_false b x → true ≡ is_some o → Done (clause_step (literals_of l) ∷ []) p b (Ok p) b
-  read_many None read p f e t = absurd (true≢false t)
-  read_many (Some i) read p f e t = done_stay (clause_step (literals_of l)) p b f (ap (unit_cut b) (read.1 ∙ ap (λ (ls : List Literal). literal_at l i ∷ ls) (take e)))
+  pub read_many : (p : Bool) → Fine b → false ≡ is_false b x → only < n → Done (clause_step (literals_of l) ∷ []) p b (Ok p) b
+  read_many p f e g = done_stay (clause_step (literals_of l)) p b f (ap (unit_cut b) (read.one g ∙ ap (λ (ls : List Literal). literal_at l only ∷ ls) (take e)))
 
 -- ---- the clause, when all positions are read
-module _ {b : Box} {l : List ℤ} {n k : ℕ} (lits : Lits b l n) (all : n ≤ k) (p : Bool) where
+module _ {b : Box} {l : List ℤ} {n only k : ℕ} (lits : Lits b l n) (read : Read b l n only k) (all : n ≤ k) (p : Bool) where
   rest : open_from b l k ≡ []
   unfolding open_of
   rest = ap (open_of b) (literals_end l k (omega (arith, lits.long)))
 
-  pub clause_none : Fine b → Read b l None k → Done (clause_step (literals_of l) ∷ []) p b (Err (record {})) b
-  clause_none f read = done_void (clause_step (literals_of l)) p b f (ap (unit_cut b) (read ∙ rest))
+  pub clause_none : Fine b → n ≤ only → Done (clause_step (literals_of l) ∷ []) p b (Err (record {})) b
+  clause_none f g = done_void (clause_step (literals_of l)) p b f (ap (unit_cut b) (read.none g ∙ rest))
 
-  pub clause_one : {i : ℕ} → Read b l (Some i) k → {x : Literal} → x ≡ literal_at l i → {r : Result Bool Emptied} {b' : Box} → Done ((λ c. literal_cut c x) ∷ []) p b r b' → Done (clause_step (literals_of l) ∷ []) p b r b'
-  clause_one {i} read {x} ex {r} {b'} d = record {
+  pub clause_one : only < n → {x : Literal} → x ≡ literal_at l only → {r : Result Bool Emptied} {b' : Box} → Done ((λ c. literal_cut c x) ∷ []) p b r b' → Done (clause_step (literals_of l) ∷ []) p b r b'
+  clause_one g {x} ex {r} {b'} d = record {
     says = d.says
-        ∙ sym (next_at (λ c. literal_cut c x) (literal_cut b (literal_at l i)) p b (ap (literal_cut b) ex))
-        ∙ next_at (clause_step (literals_of l)) (literal_cut b (literal_at l i)) p b (ap (unit_cut b) (read.1 ∙ ap (λ (ls : List Literal). literal_at l i ∷ ls) rest));
+        ∙ sym (next_at (λ c. literal_cut c x) (literal_cut b (literal_at l only)) p b (ap (literal_cut b) ex))
+        ∙ next_at (clause_step (literals_of l)) (literal_cut b (literal_at l only)) p b (ap (unit_cut b) (read.one g ∙ ap (λ (ls : List Literal). literal_at l only ∷ ls) rest));
     fine = d.fine;
   }

@@ -53,22 +53,23 @@ fn cut_literal(frame: &mut Frame, l: Literal, changed: bool) -> Result<bool, Emp
     frame.cut(quantity_of(l), s, changed)
 }
 
-// All false: empty. Exactly one position not false: cut by it. Otherwise nothing. The one that is not false is at `open`.
+// All false: empty. Exactly one position not false: cut by it. Otherwise nothing. The one that is not false is at `open`, n as long as there is none.
 pub fn narrow(frame: &mut Frame, literals: &[i64], changed: bool) -> Result<bool, Emptied>
     requires { Lits frame.old.ends.now literals.now (length literals.now / 3) }
     ensures { Narrowed (clause_step (literals_of literals.now) ∷ []) changed frame.old.ends result frame.new.ends }
 {
-    let mut open = None;
-    for k in 0..literals.len() / 3 {
+    let n = literals.len() / 3;
+    let mut open = n;
+    for k in 0..n {
         if !is_false(frame, problem::literal_at(literals, k)) {
-            if open.is_some() {
+            if open < n {
                 return Ok(changed);
             }
-            open = Some(k);
+            open = k;
         }
     }
-    match open {
-        None => Err(Emptied),
-        Some(k) => cut_literal(frame, problem::literal_at(literals, k), changed),
+    if open == n {
+        return Err(Emptied);
     }
+    cut_literal(frame, problem::literal_at(literals, open), changed)
 }

@@ -42,7 +42,7 @@ module _ (rs ps ns ls : List ℤ) where
     met_2 b = rw (a, b)
 
     module _ (b : bad_lists ps ns ls ≡ false) where
-      met_3 : bad_ranges rs ≡ true → Err Ranges ≡ judge_of rs ps ns ls
+      pub met_3 : bad_ranges rs ≡ true → Err Ranges ≡ judge_of rs ps ns ls
       unfolding judge_of
       met_3 c = rw (a, b, c)
 

@@ -10,7 +10,10 @@ use crate::{Primitive, Problem};
 fn over_lower(a: usize, b: usize, c: usize, q: usize) -> bool
     ensures { result ≡ (eqb a q && (ltb b q && ltb c q)) }
 {
-    a == q && b < q && c < q
+    if a != q {
+        return false;
+    }
+    b < q && c < q
 }
 
 // Whether q is the result of a primitive over lower-numbered ones: z of any kind, or x or y of a sum.
@@ -19,7 +22,13 @@ fn is_result(primitive: Primitive, q: usize) -> bool
 {
     match primitive {
         Primitive::Sum { z, x, y } => {
-            over_lower(z, x, y, q) || over_lower(x, z, y, q) || over_lower(y, z, x, q)
+            if over_lower(z, x, y, q) {
+                return true;
+            }
+            if over_lower(x, z, y, q) {
+                return true;
+            }
+            over_lower(y, z, x, q)
         }
         Primitive::Product { z, x, y } => over_lower(z, x, y, q),
         Primitive::Square { z, x } => z == q && x < q,

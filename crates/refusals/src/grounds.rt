@@ -10,6 +10,11 @@ use std::io;
 // The refusal of lists that are too short.
 const SHORT: usize = 19;
 
+// The most bytes of a sheet, and how many more numbers than the full sizes a list has at most; a case that asks for more is not tried.
+const SHEET: usize = 4_200;
+
+const MORE: u8 = 8;
+
 // What the first fields of a case ask, of a refusal with a number or of an accepted sheet.
 pub fn asked(number: usize, fields: &mut Fields) -> Numbers {
     if number == 0 {
@@ -25,8 +30,8 @@ pub fn asked(number: usize, fields: &mut Fields) -> Numbers {
 }
 
 // Whether a case agrees with so many more numbers in each list than the full sizes.
-pub fn agrees(alloc: Global, line: &str, more: u8) -> io::Result<bool> {
-    let mut fields = Fields::new(line);
+pub fn agrees(alloc: Global, case: &[u8], more: u8) -> io::Result<bool> {
+    let mut fields = Fields::new(case);
     let number: usize = fields.take();
     let (sizes, asked) = if number == SHORT {
         (Sizes::take(&mut fields), Err((SHORT, 0)))
@@ -34,6 +39,9 @@ pub fn agrees(alloc: Global, line: &str, more: u8) -> io::Result<bool> {
         (Sizes::full(more), asked(number, &mut fields))
     };
     let sheet = unfolded(alloc, fields.rest)?;
+    if SHEET < sheet.len() || !sizes.is_within(Sizes::full(MORE)) {
+        return Ok(false);
+    }
     let mut lists = Lists::new(alloc, sizes)?;
     let answer = lists.translate(&sheet);
     Ok(in_numbers(answer) == asked && lists.made(answer).is_some())

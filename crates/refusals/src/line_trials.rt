@@ -5,13 +5,19 @@ use cases::unfold::unfolded;
 use std::alloc::Global;
 use std::io;
 
+// The most bytes of a text; a case with more is not tried.
+const TEXT: usize = 256;
+
 // Whether a case agrees.
-pub fn agrees(alloc: Global, case: &str) -> io::Result<bool> {
+pub fn agrees(alloc: Global, case: &[u8]) -> io::Result<bool> {
     let mut fields = Fields::new(case);
     let line = fields.take();
     let start = fields.take();
     let end = fields.take();
     let text = unfolded(alloc, fields.rest)?;
+    if TEXT < text.len() {
+        return Ok(false);
+    }
     let span = sheet::line_span(&text, line);
     let stretch = sheet::line_at(&text, line);
     Ok(span.start == start && span.end == end && text.get(start..end) == Some(stretch))

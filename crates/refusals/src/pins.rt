@@ -3,20 +3,25 @@
 use crate::grounds::asked;
 use crate::translating::{Lists, Sizes, in_numbers};
 use cases::fields::Fields;
+use cases::table::behind;
 use cases::unfold::unfolded;
 use std::alloc::Global;
 use std::io;
 
+// The most bytes of a sheet; a case with more is not tried.
+const SHEET: usize = 512;
+
 // Whether a case agrees.
-pub fn agrees(alloc: Global, line: &str) -> io::Result<bool> {
-    let Some((sheet, answer)) = line.split_once('|') else {
+pub fn agrees(alloc: Global, case: &[u8]) -> io::Result<bool> {
+    let sheet = unfolded(alloc, case)?;
+    if SHEET < sheet.len() {
         return Ok(false);
-    };
-    let mut fields = Fields::new(answer);
+    }
+    let mut fields = Fields::new(behind(case, b'|').unwrap_or(b""));
     let number = fields.take();
     let asked = asked(number, &mut fields);
     let mut lists = Lists::new(alloc, Sizes::full(0))?;
-    let answer = lists.translate(&unfolded(alloc, sheet)?);
+    let answer = lists.translate(&sheet);
     let Some(made) = lists.made(answer) else {
         return Ok(false);
     };

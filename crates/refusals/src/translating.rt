@@ -37,6 +37,15 @@ impl Sizes {
         }
     }
 
+    // Whether no list is longer than with other sizes.
+    pub fn is_within(self, most: Sizes) -> bool {
+        self.ranges <= most.ranges
+            && self.primitives <= most.primitives
+            && self.lengths <= most.lengths
+            && self.literals <= most.literals
+            && self.names <= most.names
+    }
+
     // The sizes in the next fields of a case.
     pub fn take(fields: &mut Fields) -> Sizes {
         Sizes {

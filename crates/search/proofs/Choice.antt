@@ -1,13 +1,12 @@
 -- The lowest-numbered quantity with more than one value, and the low ends as a list: both go through the box once, quantity by quantity.
 use mathlib.Core.Path.{◌≡◌, refl, sym, ap, ◌∙◌, fun_ext}
-use mathlib.Core.List.{List, [], ◌∷◌, ◌++◌, append-nil}
+use mathlib.Core.List.{List, [], ◌∷◌}
 use mathlib.Core.Bool.{Bool, true, false}
 use Prim.Native.Nat.{ℕ, zero, suc, ◌+◌, ◌-◌, ◌*◌, ◌≤◌, ◌<◌}
 use native.Mathlib.Omega.{arith}
 use native.Mathlib.Decide.{ℕ_discrete, dec_lt}
-use native.Mathlib.Numerals.{add-one}
-use lib.ListN.{length, take, set, drop_of_length-le}
-use lib.Seq.{paste, paste-suc, take_all}
+use lib.ListN.{length, set}
+use lib.Seq.{paste}
 use lib.IntN.{ℤ, pos}
 use lib.Signed.{◌≤ℤ◌, ◌<ℤ◌, lt_z}
 use Rattle.std.specs.Prelude.{Option, Some, None}
@@ -17,6 +16,7 @@ use Rattle.narrow.specs.Parts.{Part}
 use Rattle.search.specs.Search.{open_from, lowest}
 use Rattle.search.specs.Solve.{lows}
 use Rattle.search.specs.Demand2.{point_at}
+use Rattle.search.proofs.Copies.{paste_turn, paste_done}
 
 -- what a choice among k quantities from r on says
 abbrev Chosen : Box → ℕ → ℕ → Option ℕ → Type 0
@@ -106,13 +106,9 @@ lows_length (l ∷ (x ∷ b)) n e = omega (arith, lows_length b (n - 1) (omega a
 
 -- ---- the loop that writes them over d: after q turns the first q numbers are low ends
 pub lows_turn : (b : Box) (d l : List ℤ) (q : ℕ) (v : ℤ) → length b ≡ 2 * length d → l ≡ paste d 0 (lows b) q → q < length d → v ≡ low_at b q → set l q v ≡ paste d 0 (lows b) (q + 1)
-lows_turn b d l q v long e h f =
-    let n : length (lows b) ≡ length d = lows_length b (length d) long in
-    let z : q ≡ 0 + q = omega arith in
-    rw (e, f ∙ sym (lows_at b (length d) long q), add-one q)
-    (ap (λ (k : ℕ). set (paste d 0 (lows b) q) k (point_at (lows b) q)) z ∙ paste-suc d 0 (lows b) q (pos 0) (omega arith) (omega arith))
+lows_turn b d l q v long e h f = paste_turn d (lows b) l q v e (omega (arith, lows_length b (length d) long)) h (f ∙ sym (lows_at b (length d) long q))
 
 pub lows_done : (b : Box) (d l : List ℤ) (q : ℕ) → length b ≡ 2 * length d → l ≡ paste d 0 (lows b) q → length d ≤ q → l ≡ lows b
 lows_done b d l q long e k =
     let n : length (lows b) ≡ length d = lows_length b (length d) long in
-    e ∙ ap (λ (r : List ℤ). take q (lows b) ++ r) (drop_of_length-le d {i = 0 + q} (omega arith)) ∙ append-nil (take q (lows b)) ∙ take_all q (lows b) (omega arith)
+    paste_done d (lows b) l q n e (omega arith)

@@ -1,6 +1,7 @@
 pub mod Splits
 pub mod Order
 pub mod Deep
+pub mod Copies
 pub mod Choice
 pub mod Run
 pub mod Demand2

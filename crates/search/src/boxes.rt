@@ -5,6 +5,16 @@ ghost use Rattle.search.specs.Search.{lowest, lower_part, upper_part};
 ghost use Rattle.search.specs.Solve.{lows};
 ghost use Rattle.search.specs.inner.Steps.{Splittable};
 
+// The numbers of one list go to another, one by one: copied at once, they would have the archive for C ask for `memmove`.
+pub fn copy(from: &[i64], to: &mut [i64])
+    requires { length from.now ≡ length to.old }
+    ensures { to.new ≡ from.now }
+{
+    for i in 0..from.len() {
+        to[i] = from[i];
+    }
+}
+
 // The low end of each quantity goes to the point buffer.
 pub fn lows_to(b: &[i64], point: &mut [i64])
     requires { length b.now ≡ 2 * length point.old }
@@ -33,7 +43,7 @@ pub fn split(slots: &mut [i64], width: usize, q: usize)
     ensures { slots.new ≡ upper_part (take width slots.old) q ++ lower_part (take width slots.old) q }
 {
     let (upper, lower) = slots.split_at_mut(width);
-    lower.copy_from_slice(upper);
+    copy(upper, lower);
     let middle = whole::middle(upper[2 * q], upper[2 * q + 1]);
     upper[2 * q] = middle + 1;
     lower[2 * q + 1] = middle;

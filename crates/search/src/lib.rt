@@ -76,7 +76,7 @@ fn search(
     ensures { Searched problem.entry.ranges.now problem.entry.primitives.now problem.entry.lengths.now problem.entry.literals.now leading budget point.old work.old point.new work.new result }
 {
     let width = problem.ranges.len();
-    work[..width].copy_from_slice(problem.ranges);
+    boxes::copy(problem.ranges, &mut work[..width]);
     let mut waiting = 0;
     let mut left = budget;
     loop {

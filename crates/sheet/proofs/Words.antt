@@ -11,8 +11,9 @@ use native.Mathlib.Omega.{arith}
 use lib.Dec.{leb, lit<}
 use lib.ListN.{length, get_or, drop}
 use borrow.Author.Tests.{le-leb, lt-ltb}
-use Rattle.sheet.specs.Tokens.{digit_first, number_of, as_number, as_negative, key_of, all_lower, mark_of, word_of, minus_first, behind, token_of}
-use Rattle.sheet.specs.declared.Token.TheVariants.{Name, Bad}
+use Rattle.sheet.specs.Tokens.{digit_first, number_of, as_number, as_negative, key_of, all_lower, mark_of, or_else, word_of, minus_first, behind, token_of}
+use Rattle.sheet.specs.declared.Token.{Token}
+use Rattle.sheet.specs.declared.Token.TheVariants.{Number, Negative, Name, Fixed, Bad}
 use Rattle.sheet.proofs.Places.{drop_at, drop_end}
 
 module _ (l : List ℕ) (i : ℕ) where
@@ -40,6 +41,14 @@ room k i b h g = rw (add-one, pow-suc) (omega arith)
 
 pub room_top : (i : ℕ) → i < 8 → 256 ^ (i + 1) ≤ 2 ^ 64
 room_top i h = pow-le-pow_right {n = 256} (lit< tt) {i = i + 1} {j = 8} (omega arith)
+
+-- ---- a mark, or else a name
+pub not_bad : (t u : Token) → (t ≡ Bad → ⊥) → or_else t u ≡ t
+not_bad (Number n) u h = refl
+not_bad (Negative n) u h = refl
+not_bad (Name n) u h = refl
+not_bad (Fixed m) u h = refl
+not_bad Bad u h = absurd (h refl)
 
 -- no mark, and letters alone
 pub word_letters : (w : List ℕ) → length w ≤ 8 → mark_of (key_of 0 w) ≡ Bad → (length w ≡ 0 → ⊥) → all_lower w ≡ true → word_of w ≡ Name (key_of 0 w)

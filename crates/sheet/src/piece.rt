@@ -20,11 +20,12 @@ fn unit(b: u8) -> Option<u64>
     }
 }
 
-// A value times a unit, if that is at most M.
+// A value times a unit, if that is at most M: if the value is at most M / unit, rounded down.
 fn scaled(v: u64, u: u64) -> Option<u64>
+    requires { 0 < u }
     ensures { result ≡ limited (v * u) }
 {
-    v.checked_mul(u).filter(|n| *n <= TOP)
+    if v <= TOP / u { Some(v * u) } else { None }
 }
 
 // What further digits, and a unit, make of the value of the digits before them.

@@ -1,13 +1,24 @@
 // Refusals 1 to 8, and what an answer leaves in the buffers. Each line of a table is a case: the answer's number, how many numbers of
 // the workspace are 0 after it, the lengths of the range, primitive, length and literal lists, the leading number, the budget, the
 // lengths of the point buffer and the workspace, and up to three edits of the lists below: list, place, number.
-use crate::solving::{Buffers, Lists, number_of};
+use crate::solving::{Buffers, Lists, Sizes, number_of};
 use cases::fields::Fields;
 use std::alloc::{AllocError, Global};
 use std::io;
 
 // How many edits a case has at most.
 const EDITS: usize = 3;
+
+// The lengths of the lists, of which a case has the fronts; one that asks for more is not solved, and its answer is that a list was too
+// short.
+const MOST: Sizes = Sizes {
+    ranges: 300,
+    primitives: 1_100,
+    lengths: 300,
+    literals: 3_100,
+    point: 140,
+    work: 33_100,
+};
 
 // A list of some length that says the same numbers over and over.
 fn repeated(alloc: Global, numbers: &[i64], length: usize) -> Result<Vec<i64>, AllocError> {
@@ -37,29 +48,45 @@ fn edit(fields: &mut Fields, lists: &mut Lists) {
 
 // Whether a case agrees. Before the edits the ranges are 0 to 1, the primitives sums of quantity 0 and itself, and the clauses of four
 // literals, which say that quantity 0 is at most 1. After FOUND and STOP the point is made of the low ends.
-pub fn agrees(alloc: Global, line: &str) -> io::Result<bool> {
-    let mut fields = Fields::new(line);
+pub fn agrees(alloc: Global, case: &[u8]) -> io::Result<bool> {
+    let mut fields = Fields::new(case);
     let number: usize = fields.take();
     let needed = fields.take();
-    let mut lists = Lists {
-        ranges: repeated(alloc, &[0, 1], fields.take())?,
-        primitives: repeated(alloc, &[1, 0, 0, 0], fields.take())?,
-        lengths: repeated(alloc, &[4], fields.take())?,
-        literals: repeated(alloc, &[0, 0, 1], fields.take())?,
-    };
+    let ranges = fields.take();
+    let primitives = fields.take();
+    let lengths = fields.take();
+    let literals = fields.take();
     let leading = fields.take();
     let budget = fields.take();
-    let mut buffers = Buffers::new(alloc, fields.take(), fields.take())?;
+    let sizes = Sizes {
+        ranges,
+        primitives,
+        lengths,
+        literals,
+        point: fields.take(),
+        work: fields.take(),
+    };
+    let mut lists = Lists {
+        ranges: repeated(alloc, &[0, 1], MOST.ranges)?,
+        primitives: repeated(alloc, &[1, 0, 0, 0], MOST.primitives)?,
+        lengths: repeated(alloc, &[4], MOST.lengths)?,
+        literals: repeated(alloc, &[0, 0, 1], MOST.literals)?,
+    };
     for _ in 0..EDITS {
-        if !fields.rest.is_empty() {
+        if !fields.is_empty() {
             edit(&mut fields, &mut lists);
         }
     }
-    let solved = buffers.solve(&lists, leading, budget);
-    let Some(point) = buffers.point(solved) else {
+    let mut buffers = Buffers::new(
+        alloc,
+        sizes.point.min(MOST.point),
+        sizes.work.min(MOST.work),
+    )?;
+    let outcome = buffers.solve(&lists, &sizes, leading, budget);
+    let Some(point) = buffers.point(outcome) else {
         return Ok(false);
     };
     let lows = lists.ranges.iter().step_by(2);
     let is_lows = point.iter().zip(lows).all(|(x, low)| x == low);
-    Ok(number_of(solved) == number && is_lows && buffers.is_cleared(needed))
+    Ok(number_of(outcome) == number && is_lows && buffers.is_cleared(needed))
 }

@@ -1,7 +1,7 @@
 // Small problems from a fixed pseudo-random sequence, each answered by solve and by trying every point in order.
 ghost use Rattle.std.specs.Prelude.{pos, neg_ℤ, ◌≤ℤ◌, ◌≡◌, ◌<◌, length, vec_len, IfOk};
 
-use crate::solving::{Buffers, Lists};
+use crate::solving::{Buffers, Lists, Sizes};
 use cases::report;
 use cases::sequence::Sequence;
 use search::Answer;
@@ -300,12 +300,20 @@ impl Problem {
         let lists = self.lists(alloc)?;
         let quantities = self.ranges.len();
         let needed = self.room();
-        let mut buffers = Buffers::new(alloc, quantities, needed.saturating_add(more))?;
-        let answer = buffers.solve(&lists, quantities as i64, i64::from(self.budget));
-        let Some(point) = buffers.point(answer) else {
+        let sizes = Sizes {
+            ranges: lists.ranges.len(),
+            primitives: lists.primitives.len(),
+            lengths: lists.lengths.len(),
+            literals: lists.literals.len(),
+            point: quantities,
+            work: needed.saturating_add(more),
+        };
+        let mut buffers = Buffers::new(alloc, sizes.point, sizes.work)?;
+        let outcome = buffers.solve(&lists, &sizes, quantities as i64, i64::from(self.budget));
+        let Some(point) = buffers.point(outcome) else {
             return Ok(false);
         };
-        let Ok(solved) = answer else {
+        let Some(Ok(solved)) = outcome else {
             return Ok(false);
         };
         let budget = self.budget as usize;

@@ -4,6 +4,17 @@ use problem::{Problem, Refusal};
 use search::{Answer, Solved};
 use std::alloc::{AllocError, Global};
 
+// How many numbers of each list a case asks for.
+#[derive(Clone, Copy)]
+pub struct Sizes {
+    pub ranges: usize,
+    pub primitives: usize,
+    pub lengths: usize,
+    pub literals: usize,
+    pub point: usize,
+    pub work: usize,
+}
+
 // The lists of a problem.
 #[derive(Drop)]
 pub struct Lists {
@@ -14,26 +25,30 @@ pub struct Lists {
 }
 
 impl Lists {
-    // The problem in the lists.
-    fn problem(&self) -> Problem<'_> {
-        Problem {
-            ranges: &self.ranges,
-            primitives: &self.primitives,
-            lengths: &self.lengths,
-            literals: &self.literals,
-        }
+    // The problem in the fronts of the lists, if they are so long.
+    fn problem(&self, sizes: &Sizes) -> Option<Problem<'_>> {
+        Some(Problem {
+            ranges: self.ranges.get(..sizes.ranges)?,
+            primitives: self.primitives.get(..sizes.primitives)?,
+            lengths: self.lengths.get(..sizes.lengths)?,
+            literals: self.literals.get(..sizes.literals)?,
+        })
     }
 }
 
+// What a solve says; nothing where a list is too short for what a case asks.
+pub type Outcome = Option<Result<Solved, Refusal>>;
+
 // The number that a table has for an answer: 1 to 8 for a refusal.
-pub fn number_of(solved: Result<Solved, Refusal>) -> usize {
-    match solved {
-        Ok(solved) => match solved.answer {
+pub fn number_of(outcome: Outcome) -> usize {
+    match outcome {
+        Some(Ok(solved)) => match solved.answer {
             Answer::None => 50,
             Answer::Found => 51,
             Answer::Stopped => 52,
         },
-        Err(refusal) => usize::from(refusal),
+        Some(Err(refusal)) => usize::from(refusal),
+        None => 53,
     }
 }
 
@@ -53,26 +68,29 @@ impl Buffers {
         })
     }
 
-    // Solves a problem.
-    pub fn solve(&mut self, lists: &Lists, leading: i64, budget: i64) -> Result<Solved, Refusal> {
-        search::solve(
-            lists.problem(),
+    // Solves the problem in the fronts of the lists.
+    pub fn solve(&mut self, lists: &Lists, sizes: &Sizes, leading: i64, budget: i64) -> Outcome {
+        Some(search::solve(
+            lists.problem(sizes)?,
             leading,
             budget,
-            self.point.lend(),
-            self.work.lend(),
-        )
+            self.point.lend().get_mut(..sizes.point)?,
+            self.work.lend().get_mut(..sizes.work)?,
+        ))
     }
 
     // What a solve left in the point buffer, if the rest of it is as it came: the point or the floor, or nothing after NONE and after a
-    // refusal.
-    pub fn point(&self, solved: Result<Solved, Refusal>) -> Option<&[i64]> {
-        let written = match solved {
-            Ok(
-                Solved {
-                    answer: Answer::Found | Answer::Stopped,
-                    ..
-                },
+    // refusal. Where a list was too short, it is what was to be lent, as it came.
+    pub fn point(&self, outcome: Outcome) -> Option<&[i64]> {
+        let written = match outcome {
+            None => self.point.lent,
+            Some(
+                Ok(
+                    Solved {
+                        answer: Answer::Found | Answer::Stopped,
+                        ..
+                    },
+                ),
             ) => self.point.lent,
             _ => 0,
         };

@@ -43,6 +43,13 @@ floor_only a b q n f =
 pub ceiling_is : (a b : ℤ) → (b ≡ pos 0 → ⊥) → Ceiling a b (ceil_q a b)
 ceiling_is a b n = ceiling_of a b (ceil_q a b) n (ceiling_over a b)
 
+pub ceiling_only : (a b q : ℤ) → (b ≡ pos 0 → ⊥) → Ceiling a b q → q ≡ ceil_q a b
+ceiling_only a b q n f =
+    let g = ceiling_is a b n in
+    let h = g.least q f.above in
+    let k = f.least (ceil_q a b) g.above in
+    omega ints
+
 -- ---- the middle
 pub middle_is : (l h : ℤ) → Middle l h (middle_of l h)
 middle_is l h =

@@ -1,5 +1,5 @@
 // Products of near numbers, held: exact up to M either way, one past M beyond. No division is needed to tell which.
-ghost use Rattle.std.specs.Prelude.{false, ◌&&◌, ◌≡◌, ℤ, pos, negsuc, ◌*ℤ◌};
+ghost use Rattle.std.specs.Prelude.{false, true, ◌&&◌, ◌||◌, ◌≡◌, ℤ, pos, negsuc, ◌*ℤ◌};
 ghost use Rattle.std.specs.Int.Signed.{le_z, lt_z};
 ghost use Rattle.whole.specs.Numbers.{Near};
 ghost use Rattle.whole.specs.inner.Held.{held};
@@ -28,6 +28,16 @@ fn beyond(a: i64, b: i64) -> i64
     if (a < 0) == (b < 0) { OVER } else { UNDER }
 }
 
+// The product of two factors of which one is small: it fits 64 bits.
+fn plain(a: i64, b: i64) -> i64
+    requires near_1 { Near a }
+    requires near_2 { Near b }
+    requires one_small { ((le_z (negsuc 999_999) a && le_z a (pos 1_000_000)) || (le_z (negsuc 999_999) b && le_z b (pos 1_000_000))) ≡ true }
+    ensures { result ≡ a *ℤ b }
+{
+    a * b
+}
+
 // A number that is held as the product is: the product itself where a factor is small, and else one past M on its side.
 fn reached(a: i64, b: i64) -> i64
     requires fact_1 { Near a }
@@ -35,7 +45,7 @@ fn reached(a: i64, b: i64) -> i64
     ensures { held result ≡ held (a *ℤ b) }
 {
     if small(a) || small(b) {
-        return a * b;
+        return plain(a, b);
     }
     beyond(a, b)
 }
@@ -46,7 +56,10 @@ pub fn times(a: i64, b: i64) -> i64
     requires fact_2 { Near b }
     ensures { result ≡ held (a *ℤ b) }
 {
-    reached(a, b).clamp(UNDER, OVER)
+    if !small(a) && !small(b) {
+        return beyond(a, b);
+    }
+    plain(a, b).clamp(UNDER, OVER)
 }
 
 // Whether the exact product is below a near number.

@@ -3,4 +3,4 @@ use Rattle.narrow.proofs.Reading.{Read}
 use Rattle.narrow.proofs.clause.narrow.Given as goal
 
 abbrev pub invariant-loop-k : goal.invariant-loop-k
-invariant-loop-k l = Read l.frame.ends.now l.literals l.open l.k
+invariant-loop-k l = Read l.frame.ends.now l.literals l.n l.open l.k

@@ -9,8 +9,8 @@ use Rattle.whole.proofs.product.times.Goals as goal
 
 pub returns : goal.returns
 returns c =
-    let r = c.reached in
+    let p = c.plain in
     let h = c.clamp in
     got h.result h.type_inv ∙ h.ensures.value
-    ∙ ap (λ (z : ℤ). int_max (negsuc 1_000_000_000_000) (int_min z (pos 1_000_000_000_001))) (got r.result r.type_inv)
-    ∙ clamp_is r.result ∙ r.ensures ∙ ap₂ (λ (x y : ℤ). held (x *ℤ y)) (rd c.ranges.a) (rd c.ranges.b)
+    ∙ ap (λ (z : ℤ). int_max (negsuc 1_000_000_000_000) (int_min z (pos 1_000_000_000_001))) (got p.result p.type_inv)
+    ∙ clamp_is p.result ∙ ap held (p.ensures ∙ ap₂ (λ (x y : ℤ). x *ℤ y) (rd c.ranges.a) (rd c.ranges.b))
