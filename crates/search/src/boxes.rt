@@ -6,6 +6,7 @@ ghost use Rattle.search.specs.Solve.{lows};
 ghost use Rattle.search.specs.inner.Steps.{Splittable};
 
 // The numbers of one list go to another, one by one: copied at once, they would have the archive for C ask for `memmove`.
+#[inline(never)]
 pub fn copy(from: &[i64], to: &mut [i64])
     requires { length from.now ≡ length to.old }
     ensures { to.new ≡ from.now }
