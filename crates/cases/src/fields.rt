@@ -1,8 +1,42 @@
-// The fields of a line of a table, one space apart.
+// The fields of a line of a table, one space apart: of a text, or of bytes, which may be no text.
 ghost use Rattle.std.specs.Prelude.{◌≡◌, ℕ, ◌≤◌, List, length, vec_len, IfOk};
 ghost use Rattle.cases.specs.Counts.{count_on, number_of, is_line_end};
 
 use std::alloc::{AllocError, Global};
+use std::str::FromStr;
+
+// What is left of a line: its fields are taken from the front.
+#[derive(Clone, Copy)]
+pub struct Fields<'a> {
+    pub rest: &'a str,
+}
+
+impl<'a> Fields<'a> {
+    // All fields of a line.
+    pub fn new(line: &'a str) -> Fields<'a>
+        ensures { result.rest.now ≡ line.now }
+    {
+        Fields { rest: line }
+    }
+
+    // The number in the next field, 0 where there is none.
+    pub fn take<T: FromStr + Default>(&mut self) -> T
+    where
+        T::Err: Drop,
+        ensures { length self.new.rest.now ≤ length self.old.rest.now }
+    {
+        let (field, rest) = self.rest.split_once(' ').unwrap_or((self.rest, ""));
+        self.rest = rest;
+        field.parse().unwrap_or_default()
+    }
+
+    // The numbers in the next fields.
+    pub fn take_list(&mut self, alloc: Global, count: usize) -> Result<Vec<i64>, AllocError>
+        ensures { IfOk result (λ list. vec_len list ≡ count) }
+    {
+        (0..count).map(|_| self.take::<i64>()).collect(alloc)
+    }
+}
 
 // How many numbers there are from 0 on; a count past them starts at 0 again.
 const NUMBERS: usize = 9_223_372_036_854_775_808;
@@ -52,18 +86,18 @@ impl Number for i64 {
     }
 }
 
-// What is left of a line: its fields are taken from the front. The lines behind it may follow.
+// What is left of a line of bytes: its fields are taken from the front. The lines behind it may follow.
 #[derive(Clone, Copy)]
-pub struct Fields<'a> {
+pub struct ByteFields<'a> {
     pub rest: &'a [u8],
 }
 
-impl<'a> Fields<'a> {
+impl<'a> ByteFields<'a> {
     // All fields of a line.
-    pub fn new(line: &'a [u8]) -> Fields<'a>
+    pub fn new(line: &'a [u8]) -> ByteFields<'a>
         ensures { result.rest.now ≡ line.now }
     {
-        Fields { rest: line }
+        ByteFields { rest: line }
     }
 
     // Whether no field is left.
@@ -100,7 +134,28 @@ mod tests {
 
     #[test]
     fn takes_numbers(rt: HostRuntime) -> Result<(), Fail> {
-        let mut fields = Fields::new(b"3 -1 07 a b");
+        let mut fields = Fields::new("3 -1 07 a b");
+        let list = fields.take_list(rt.alloc(), 3)?;
+        assert_eq!(rt; list.as_slice(), [3, -1, 7].as_slice());
+        assert_eq!(rt; fields.rest, "a b");
+        Ok(())
+    }
+
+    #[test]
+    fn takes_what_a_type_reads(rt: HostRuntime) {
+        let mut fields = Fields::new("300 +2 true é 5");
+        assert_eq!(rt; fields.take::<u8>(), 0);
+        assert_eq!(rt; fields.take::<u8>(), 2);
+        assert!(rt; fields.take::<bool>());
+        assert_eq!(rt; fields.take::<usize>(), 0);
+        assert_eq!(rt; fields.rest, "5");
+        assert_eq!(rt; fields.take::<i64>(), 5);
+        assert_eq!(rt; fields.rest, "");
+    }
+
+    #[test]
+    fn takes_numbers_of_bytes(rt: HostRuntime) -> Result<(), Fail> {
+        let mut fields = ByteFields::new(b"3 -1 07 a b");
         let list = fields.take_list(rt.alloc(), 3)?;
         assert_eq!(rt; list.as_slice(), [3, -1, 7].as_slice());
         assert_eq!(rt; fields.rest, b"a b".as_slice());
@@ -109,11 +164,13 @@ mod tests {
 
     #[test]
     fn takes_odd_numbers(rt: HostRuntime) -> Result<(), Fail> {
-        let mut fields = Fields::new(b"+2 1x -0 --3  9223372036854775809 -9223372036854775809\n7");
+        let mut fields = ByteFields::new(
+            b"+2 1x -0 --3  9223372036854775809 -9223372036854775809\n7",
+        );
         let list = fields.take_list(rt.alloc(), 8)?;
         assert_eq!(rt; list.as_slice(), [0, 1, 0, 0, 0, 1, -1, 0].as_slice());
         assert!(rt; fields.is_empty());
-        let mut fields = Fields::new(b"-5 18446744073709551617 2\t3");
+        let mut fields = ByteFields::new(b"-5 18446744073709551617 2\t3");
         assert_eq!(rt; fields.take::<usize>(), 0);
         assert_eq!(rt; fields.take::<usize>(), 1);
         assert!(rt; !fields.is_empty());

@@ -1,7 +1,7 @@
 // Texts as the data files write them: a slash stands for LF, a backslash and three digits for the byte with that code, and `{n ..}` for
 // what is in it n times over, once at least; there `@` stands for two letters, others in each turn. A text ends at a bar or at the end of
 // its line.
-use crate::fields::Fields;
+use crate::fields::ByteFields;
 use std::alloc::{AllocError, Global};
 
 // The most bytes of a table that are looked at for one text, repeated ones counted each time.
@@ -35,7 +35,7 @@ pub fn unfolded(alloc: Global, table: &[u8]) -> Result<Vec<u8>, AllocError> {
                 rest = after.get(3..).unwrap_or(b"");
             }
             b'{' => {
-                let mut fields = Fields::new(after);
+                let mut fields = ByteFields::new(after);
                 turns = fields.take();
                 turn = 0;
                 again = fields.rest;

@@ -34,11 +34,12 @@ open_from b l k = open_of b (literals_of (drop (3 * k) l))
 -- k positions are read: none of them is not false, where only is n, and else just the one at only
 pub record Read (b : Box) (l : List ℤ) (n only k : ℕ) : Type 0 where
   pub some : only ≤ n
+  pub before : only < n → only < k
   pub none : n ≤ only → open_from b l 0 ≡ open_from b l k
   pub one : only < n → open_from b l 0 ≡ literal_at l only ∷ open_from b l k
 
 pub read_none : (b : Box) (l : List ℤ) (n : ℕ) → Read b l n n 0
-read_none b l n = record { some = omega arith; none = λ _. refl; one = λ h. absurd (omega arith) }
+read_none b l n = record { some = omega arith; before = λ h. absurd (omega arith); none = λ _. refl; one = λ h. absurd (omega arith) }
 
 module _ {b : Box} {l : List ℤ} {n only k : ℕ} (lits : Lits b l n) (read : Read b l n only k) (h : k < n) {x : Literal} (ex : x ≡ literal_at l k) where
   here : open_from b l k ≡ open_of b (literal_at l k ∷ literals_of (drop (3 * (k + 1)) l))
@@ -57,12 +58,13 @@ module _ {b : Box} {l : List ℤ} {n only k : ℕ} (lits : Lits b l n) (read : R
   pub read_false : true ≡ is_false b x → Read b l n only (k + 1)
   read_false e = record {
     some = read.some;
+    before = λ g. omega (arith, read.before g);
     none = λ g. read.none g ∙ skip e;
     one = λ g. read.one g ∙ ap (λ (ls : List Literal). literal_at l only ∷ ls) (skip e);
   }
 
   pub read_open : false ≡ is_false b x → n ≤ only → Read b l n k (k + 1)
-  read_open e g = record { some = omega arith; none = λ f. absurd (omega arith); one = λ _. read.none g ∙ take e }
+  read_open e g = record { some = omega arith; before = λ _. omega arith; none = λ f. absurd (omega arith); one = λ _. read.none g ∙ take e }
 
   -- or it is a second one
   pub read_many : (p : Bool) → Fine b → false ≡ is_false b x → only < n → Done (clause_step (literals_of l) ∷ []) p b (Ok p) b

@@ -2,7 +2,7 @@
 // starts with the refusal's number and its line; or with 19 and the lengths of the five lists; or with 0 and the counts of an accepted
 // sheet: quantities, declared quantities, primitives, clauses and literals. Then the text.
 use crate::translating::{Lists, Numbers, Sizes, in_numbers};
-use cases::fields::Fields;
+use cases::fields::ByteFields;
 use cases::unfold::unfolded;
 use std::alloc::Global;
 use std::io;
@@ -16,7 +16,7 @@ const SHEET: usize = 4_200;
 const MORE: u8 = 8;
 
 // What the first fields of a case ask, of a refusal with a number or of an accepted sheet.
-pub fn asked(number: usize, fields: &mut Fields) -> Numbers {
+pub fn asked(number: usize, fields: &mut ByteFields) -> Numbers {
     if number == 0 {
         return Ok([
             fields.take(),
@@ -31,7 +31,7 @@ pub fn asked(number: usize, fields: &mut Fields) -> Numbers {
 
 // Whether a case agrees with so many more numbers in each list than the full sizes.
 pub fn agrees(alloc: Global, case: &[u8], more: u8) -> io::Result<bool> {
-    let mut fields = Fields::new(case);
+    let mut fields = ByteFields::new(case);
     let number: usize = fields.take();
     let (sizes, asked) = if number == SHORT {
         (Sizes::take(&mut fields), Err((SHORT, 0)))

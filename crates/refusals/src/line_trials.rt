@@ -1,6 +1,6 @@
 // The lines of a text at their edges. Each line of the table is a case: a line number, where that line starts and ends, and the text,
 // with a slash for each LF.
-use cases::fields::Fields;
+use cases::fields::ByteFields;
 use cases::unfold::unfolded;
 use std::alloc::Global;
 use std::io;
@@ -10,7 +10,7 @@ const TEXT: usize = 256;
 
 // Whether a case agrees.
 pub fn agrees(alloc: Global, case: &[u8]) -> io::Result<bool> {
-    let mut fields = Fields::new(case);
+    let mut fields = ByteFields::new(case);
     let line = fields.take();
     let start = fields.take();
     let end = fields.take();

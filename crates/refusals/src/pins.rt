@@ -2,7 +2,7 @@
 // quantities, declared quantities, primitives, clauses and literals, and then the ranges, primitives, lengths and literals.
 use crate::grounds::asked;
 use crate::translating::{Lists, Sizes, in_numbers};
-use cases::fields::Fields;
+use cases::fields::ByteFields;
 use cases::table::behind;
 use cases::unfold::unfolded;
 use std::alloc::Global;
@@ -17,7 +17,7 @@ pub fn agrees(alloc: Global, case: &[u8]) -> io::Result<bool> {
     if SHEET < sheet.len() {
         return Ok(false);
     }
-    let mut fields = Fields::new(behind(case, b'|').unwrap_or(b""));
+    let mut fields = ByteFields::new(behind(case, b'|').unwrap_or(b""));
     let number = fields.take();
     let asked = asked(number, &mut fields);
     let mut lists = Lists::new(alloc, Sizes::full(0))?;

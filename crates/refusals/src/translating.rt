@@ -1,5 +1,5 @@
 // Calls of translate with marked lists, and what it leaves in them.
-use cases::fields::Fields;
+use cases::fields::ByteFields;
 use cases::marks::Marked;
 use problem::Problem;
 use std::alloc::{AllocError, Global};
@@ -47,7 +47,7 @@ impl Sizes {
     }
 
     // The sizes in the next fields of a case.
-    pub fn take(fields: &mut Fields) -> Sizes {
+    pub fn take(fields: &mut ByteFields) -> Sizes {
         Sizes {
             ranges: fields.take(),
             primitives: fields.take(),

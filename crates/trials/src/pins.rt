@@ -2,7 +2,7 @@
 // leading number, the budget, and the numbers of quantities, primitives, clauses and literals; then the ranges, primitives, lengths and
 // literals; then the point or the floor, or nothing after NONE and after a refusal.
 use crate::solving::{Buffers, Lists, Sizes, number_of};
-use cases::fields::Fields;
+use cases::fields::ByteFields;
 use std::alloc::{AllocError, Global};
 use std::io;
 
@@ -22,7 +22,7 @@ const MOST: Sizes = Sizes {
 // The numbers in the next fields, of which a list keeps no more than it may have.
 fn taken(
     alloc: Global,
-    fields: &mut Fields,
+    fields: &mut ByteFields,
     count: usize,
     most: usize,
 ) -> Result<Vec<i64>, AllocError> {
@@ -38,7 +38,7 @@ fn taken(
 
 // Whether a case agrees.
 pub fn agrees(alloc: Global, case: &[u8]) -> io::Result<bool> {
-    let mut fields = Fields::new(case);
+    let mut fields = ByteFields::new(case);
     let number: usize = fields.take();
     let sweeps: usize = fields.take();
     let needed: usize = fields.take();

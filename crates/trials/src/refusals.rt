@@ -2,7 +2,7 @@
 // the workspace are 0 after it, the lengths of the range, primitive, length and literal lists, the leading number, the budget, the
 // lengths of the point buffer and the workspace, and up to three edits of the lists below: list, place, number.
 use crate::solving::{Buffers, Lists, Sizes, number_of};
-use cases::fields::Fields;
+use cases::fields::ByteFields;
 use std::alloc::{AllocError, Global};
 use std::io;
 
@@ -33,7 +33,7 @@ fn put(list: &mut [i64], place: usize, number: i64) {
 }
 
 // Makes the edit in the next fields of a case.
-fn edit(fields: &mut Fields, lists: &mut Lists) {
+fn edit(fields: &mut ByteFields, lists: &mut Lists) {
     let list: usize = fields.take();
     let place: usize = fields.take();
     let number = fields.take();
@@ -49,7 +49,7 @@ fn edit(fields: &mut Fields, lists: &mut Lists) {
 // Whether a case agrees. Before the edits the ranges are 0 to 1, the primitives sums of quantity 0 and itself, and the clauses of four
 // literals, which say that quantity 0 is at most 1. After FOUND and STOP the point is made of the low ends.
 pub fn agrees(alloc: Global, case: &[u8]) -> io::Result<bool> {
-    let mut fields = Fields::new(case);
+    let mut fields = ByteFields::new(case);
     let number: usize = fields.take();
     let needed = fields.take();
     let ranges = fields.take();
