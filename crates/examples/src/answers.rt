@@ -41,7 +41,7 @@ fn sheet_of(
     given: Given,
     case: &[u8],
 ) -> Result<Vec<u8>, AllocError> {
-    let text = unfold::unfolded(alloc, case)?;
+    let text = unfold::unfolded_front(alloc, case)?;
     match given {
         Given::Text => Ok(text),
         Given::File if NAME < text.len() => Ok(Vec::new(alloc)),
@@ -64,7 +64,7 @@ pub fn compare(
     let mut out = [0u8; 4096];
     table::compare(rt, group, file, |case| {
         let sheet = sheet_of(rt, alloc, given, case)?;
-        let mut asked = unfold::unfolded(alloc, table::behind(case, b'|').unwrap_or(b""))?;
+        let mut asked = unfold::unfolded_front(alloc, table::behind(case, b'|').unwrap_or(b""))?;
         for byte in asked.iter_mut().skip(ASKED) {
             *byte = b'\n';
         }

@@ -28,18 +28,17 @@ unfolding open_of
 open_take b x ls e = rw e
 
 -- the positions from k on that are not false
-abbrev open_from : Box → List ℤ → ℕ → List Literal
+abbrev pub open_from : Box → List ℤ → ℕ → List Literal
 open_from b l k = open_of b (literals_of (drop (3 * k) l))
 
 -- k positions are read: none of them is not false, where only is n, and else just the one at only
 pub record Read (b : Box) (l : List ℤ) (n only k : ℕ) : Type 0 where
   pub some : only ≤ n
-  pub before : only < n → only < k
   pub none : n ≤ only → open_from b l 0 ≡ open_from b l k
   pub one : only < n → open_from b l 0 ≡ literal_at l only ∷ open_from b l k
 
 pub read_none : (b : Box) (l : List ℤ) (n : ℕ) → Read b l n n 0
-read_none b l n = record { some = omega arith; before = λ h. absurd (omega arith); none = λ _. refl; one = λ h. absurd (omega arith) }
+read_none b l n = record { some = omega arith; none = λ _. refl; one = λ h. absurd (omega arith) }
 
 module _ {b : Box} {l : List ℤ} {n only k : ℕ} (lits : Lits b l n) (read : Read b l n only k) (h : k < n) {x : Literal} (ex : x ≡ literal_at l k) where
   here : open_from b l k ≡ open_of b (literal_at l k ∷ literals_of (drop (3 * (k + 1)) l))
@@ -58,31 +57,35 @@ module _ {b : Box} {l : List ℤ} {n only k : ℕ} (lits : Lits b l n) (read : R
   pub read_false : true ≡ is_false b x → Read b l n only (k + 1)
   read_false e = record {
     some = read.some;
-    before = λ g. omega (arith, read.before g);
     none = λ g. read.none g ∙ skip e;
     one = λ g. read.one g ∙ ap (λ (ls : List Literal). literal_at l only ∷ ls) (skip e);
   }
 
   pub read_open : false ≡ is_false b x → n ≤ only → Read b l n k (k + 1)
-  read_open e g = record { some = omega arith; before = λ _. omega arith; none = λ f. absurd (omega arith); one = λ _. read.none g ∙ take e }
+  read_open e g = record { some = omega arith; none = λ f. absurd (omega arith); one = λ _. read.none g ∙ take e }
 
   -- or it is a second one
   pub read_many : (p : Bool) → Fine b → false ≡ is_false b x → only < n → Done (clause_step (literals_of l) ∷ []) p b (Ok p) b
   read_many p f e g = done_stay (clause_step (literals_of l)) p b f (ap (unit_cut b) (read.one g ∙ ap (λ (ls : List Literal). literal_at l only ∷ ls) (take e)))
 
 -- ---- the clause, when all positions are read
-module _ {b : Box} {l : List ℤ} {n only k : ℕ} (lits : Lits b l n) (read : Read b l n only k) (all : n ≤ k) (p : Bool) where
+module _ {b : Box} {l : List ℤ} {n k : ℕ} (lits : Lits b l n) (all : n ≤ k) (p : Bool) where
   rest : open_from b l k ≡ []
   unfolding open_of
   rest = ap (open_of b) (literals_end l k (omega (arith, lits.long)))
 
-  pub clause_none : Fine b → n ≤ only → Done (clause_step (literals_of l) ∷ []) p b (Err (record {})) b
-  clause_none f g = done_void (clause_step (literals_of l)) p b f (ap (unit_cut b) (read.none g ∙ rest))
-
-  pub clause_one : only < n → {x : Literal} → x ≡ literal_at l only → {r : Result Bool Emptied} {b' : Box} → Done ((λ c. literal_cut c x) ∷ []) p b r b' → Done (clause_step (literals_of l) ∷ []) p b r b'
-  clause_one g {x} ex {r} {b'} d = record {
+  -- the one that is not false decides, at whatever position it stands
+  pub clause_at : (i : ℕ) → open_from b l 0 ≡ literal_at l i ∷ open_from b l k → {x : Literal} → x ≡ literal_at l i → {r : Result Bool Emptied} {b' : Box} → Done ((λ c. literal_cut c x) ∷ []) p b r b' → Done (clause_step (literals_of l) ∷ []) p b r b'
+  clause_at i one {x} ex {r} {b'} d = record {
     says = d.says
-        ∙ sym (next_at (λ c. literal_cut c x) (literal_cut b (literal_at l only)) p b (ap (literal_cut b) ex))
-        ∙ next_at (clause_step (literals_of l)) (literal_cut b (literal_at l only)) p b (ap (unit_cut b) (read.one g ∙ ap (λ (ls : List Literal). literal_at l only ∷ ls) rest));
+        ∙ sym (next_at (λ c. literal_cut c x) (literal_cut b (literal_at l i)) p b (ap (literal_cut b) ex))
+        ∙ next_at (clause_step (literals_of l)) (literal_cut b (literal_at l i)) p b (ap (unit_cut b) (one ∙ ap (λ (ls : List Literal). literal_at l i ∷ ls) rest));
     fine = d.fine;
   }
+
+module _ {b : Box} {l : List ℤ} {n only k : ℕ} (lits : Lits b l n) (read : Read b l n only k) (all : n ≤ k) (p : Bool) where
+  pub clause_none : Fine b → n ≤ only → Done (clause_step (literals_of l) ∷ []) p b (Err (record {})) b
+  clause_none f g = done_void (clause_step (literals_of l)) p b f (ap (unit_cut b) (read.none g ∙ rest lits all p))
+
+  pub clause_one : only < n → {x : Literal} → x ≡ literal_at l only → {r : Result Bool Emptied} {b' : Box} → Done ((λ c. literal_cut c x) ∷ []) p b r b' → Done (clause_step (literals_of l) ∷ []) p b r b'
+  clause_one g = clause_at lits all p only (read.one g)

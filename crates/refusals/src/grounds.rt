@@ -3,7 +3,7 @@
 // sheet: quantities, declared quantities, primitives, clauses and literals. Then the text.
 use crate::translating::{Lists, Numbers, Sizes, in_numbers};
 use cases::fields::ByteFields;
-use cases::unfold::unfolded;
+use cases::unfold::unfolded_front;
 use std::alloc::Global;
 use std::io;
 
@@ -38,7 +38,7 @@ pub fn agrees(alloc: Global, case: &[u8], more: u8) -> io::Result<bool> {
     } else {
         (Sizes::full(more), asked(number, &mut fields))
     };
-    let sheet = unfolded(alloc, fields.rest)?;
+    let sheet = unfolded_front(alloc, fields.rest)?;
     if SHEET < sheet.len() || !sizes.is_within(Sizes::full(MORE)) {
         return Ok(false);
     }

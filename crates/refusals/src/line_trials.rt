@@ -1,7 +1,7 @@
 // The lines of a text at their edges. Each line of the table is a case: a line number, where that line starts and ends, and the text,
 // with a slash for each LF.
 use cases::fields::ByteFields;
-use cases::unfold::unfolded;
+use cases::unfold::unfolded_front;
 use std::alloc::Global;
 use std::io;
 
@@ -14,7 +14,7 @@ pub fn agrees(alloc: Global, case: &[u8]) -> io::Result<bool> {
     let line = fields.take();
     let start = fields.take();
     let end = fields.take();
-    let text = unfolded(alloc, fields.rest)?;
+    let text = unfolded_front(alloc, fields.rest)?;
     if TEXT < text.len() {
         return Ok(false);
     }

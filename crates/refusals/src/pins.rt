@@ -4,7 +4,7 @@ use crate::grounds::asked;
 use crate::translating::{Lists, Sizes, in_numbers};
 use cases::fields::ByteFields;
 use cases::table::behind;
-use cases::unfold::unfolded;
+use cases::unfold::unfolded_front;
 use std::alloc::Global;
 use std::io;
 
@@ -13,7 +13,7 @@ const SHEET: usize = 512;
 
 // Whether a case agrees.
 pub fn agrees(alloc: Global, case: &[u8]) -> io::Result<bool> {
-    let sheet = unfolded(alloc, case)?;
+    let sheet = unfolded_front(alloc, case)?;
     if SHEET < sheet.len() {
         return Ok(false);
     }
